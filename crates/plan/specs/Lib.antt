@@ -1,0 +1,5 @@
+pub mod Numbers
+pub mod Cells
+pub mod Kinds
+pub mod Refusals
+pub mod Stacks

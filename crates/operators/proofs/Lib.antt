@@ -1,1 +1,3 @@
 mod Exprs
+pub mod Lists
+mod Showing

@@ -75,3 +75,7 @@ catalogue = record {
   group = λ p. p / 2;
   plain-distinct = λ p. eqb (p % 2) 0;
 }
+
+-- its sources are its scans
+abbrev pub catalogue-source : ℕ → Bool
+catalogue-source k = eqb k scan

@@ -2,3 +2,6 @@ pub mod Answers
 pub mod Questions
 pub mod Windows
 pub mod Catalogue
+pub mod Rows
+pub mod Rules
+pub mod Stored

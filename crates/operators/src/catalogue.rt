@@ -1,6 +1,7 @@
 // The set of the hoard catalogue: scans, filters, unions and repartitions, six windows, and aggregates by their group.
 ghost use mathlib.Core.Path.{_≡_};
-ghost use Rattle.operators.specs.Catalogue.{catalogue};
+ghost use Rattle.operators.specs.Catalogue.{catalogue, catalogue-source};
+ghost use Rattle.operators.specs.Stored.{Shows};
 use super::CardinalityEffect;
 use super::FrameBound;
 use super::FrameUnits;
@@ -24,6 +25,13 @@ impl CatalogueSet {
     pub const UNION: u8 = 18;
     /// Spreads rows over as many partitions as its parameter says.
     pub const REPARTITION: u8 = 20;
+
+    /// Shows the rules for all stored data: any rows in the scans, and any making of rows by the other operators that the rules
+    /// allow; and for every choice of rows in the scans there are such data.
+    pub fn shows(&self)
+        ensures { λ _. ⌜ Shows catalogue catalogue-source ⌝ }
+    {
+    }
 
     /// The windows by their parameters.
     const WINDOWS: [&'static [WindowExpr]; 6] = [

@@ -30,8 +30,7 @@ impl CatalogueSet {
     /// allow; and for every choice of rows in the scans there are such data.
     pub fn shows(&self)
         ensures { λ _. ⌜ Shows catalogue catalogue-source ⌝ }
-    {
-    }
+    {}
 
     /// The windows by their parameters.
     const WINDOWS: [&'static [WindowExpr]; 6] = [

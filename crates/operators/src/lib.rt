@@ -1,6 +1,9 @@
 // Operator sets: what the rules may ask of a plan's operators, and the sets that answer.
 mod answers;
 mod catalogue;
+mod declarations;
+mod declaring;
+mod held;
 mod questions;
 mod set;
 mod windows;
@@ -15,6 +18,10 @@ pub use answers::PartitionCount;
 pub use answers::WindowExpr;
 pub use catalogue::CatalogueAnswers;
 pub use catalogue::CatalogueSet;
+pub use declarations::Declaration;
+pub use declarations::Shape;
+pub use declaring::DeclaredAnswers;
+pub use held::DeclaredSet;
 pub use questions::effect;
 pub use questions::fits;
 pub use questions::known_empty;

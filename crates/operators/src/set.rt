@@ -1,6 +1,5 @@
 // What rules may ask of a set, by what it answers.
 ghost use mathlib.Core.Path.{_≡_};
-ghost use Prim.Native.Nat.{ℕ};
 ghost use Rattle.operators.specs.Answers.{Answers};
 ghost use Rattle.operators.specs.Windows.{Window-sized};
 use super::CardinalityEffect;
@@ -13,8 +12,6 @@ use super::WindowExpr;
 /// of what does not fit, and asked again it is answered the same.
 pub trait OperatorSet {
     ghost answers: { Self → Answers };
-
-    law windows: { (s : Self) (p : ℕ) → Window-sized (answers s .window p) };
 
     /// Whether a kind may have this parameter and so many children.
     fn fits(&self, kind: u8, parameter: u32, children: u8) -> bool
@@ -38,9 +35,10 @@ pub trait OperatorSet {
     fn known_empty(&self, kind: u8, parameter: u32) -> KnownEmpty
         ensures { λ r. ⌜ r ≡ answers (now (self .entry)) .known-empty kind parameter ⌝ };
 
-    /// The expressions of a window, 1 to 16.
+    /// The expressions of a window: 1 to 16, with numbers below 2^40.
     fn window(&self, parameter: u32) -> &[WindowExpr]
-        ensures { λ r. ⌜ now r ≡ answers (now (self .entry)) .window parameter ⌝ };
+        ensures value { λ r. ⌜ now r ≡ answers (now (self .entry)) .window parameter ⌝ }
+        ensures sized { λ r. ⌜ Window-sized (now r) ⌝ };
 
     /// The number of an aggregate's group key.
     fn group(&self, parameter: u32) -> u32

@@ -7,7 +7,7 @@ use super::LimitEffect;
 use super::WindowExpr;
 
 /// The largest following and the largest relative number of a window's expressions: its reach is their sum.
-#[derive(Clone, Copy, PartialEq, Eq, Debug)]
+#[derive(Clone, Copy)]
 pub struct Reach {
     pub following: u64,
     pub relative: u64,

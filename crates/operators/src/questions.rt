@@ -1,5 +1,6 @@
 // The answers for every kind of cell: those for the kinds below 16 stand here, and here alone.
 ghost use mathlib.Core.Path.{_≡_};
+ghost use Prim.Native.Nat.{_+_, _^_, _≤_};
 ghost use Rattle.operators.specs.Questions.{fits-of, passes-limits, takes-fetch, takes-mark, effect-of, one-partition, count-by, partitions-of, empty-by, empty-of};
 use super::CardinalityEffect;
 use super::KnownEmpty;
@@ -11,12 +12,13 @@ use plan::MAX_CHILDREN;
 use plan::MAX_PARAMETER;
 
 impl PartitionCount {
-    fn of_total(self, total: u128) -> u128
-        ensures { λ r. ⌜ r ≡ count-by self total ⌝ }
+    fn of_total(self, total: u64) -> u64
+        ensures value { λ r. ⌜ r ≡ count-by self total ⌝ }
+        ensures bound { λ r. ⌜ r ≤ total + 2 ^ 32 ⌝ }
     {
         match self {
             PartitionCount::Sum => total,
-            PartitionCount::Fixed(n) => u128::from(n),
+            PartitionCount::Fixed(n) => u64::from(n),
         }
     }
 }
@@ -119,8 +121,9 @@ fn has_one_partition(kind: u8) -> bool
 }
 
 /// How many partitions it has, if its children have `total` in all.
-pub fn partitions<O: OperatorSet>(set: &O, kind: u8, parameter: u32, total: u128) -> u128
-    ensures { λ r. ⌜ r ≡ partitions-of (O·OperatorSet .answers (now (set .entry))) kind parameter total ⌝ }
+pub fn partitions<O: OperatorSet>(set: &O, kind: u8, parameter: u32, total: u64) -> u64
+    ensures value { λ r. ⌜ r ≡ partitions-of (O·OperatorSet .answers (now (set .entry))) kind parameter total ⌝ }
+    ensures bound { λ r. ⌜ r ≤ total + 2 ^ 32 ⌝ }
 {
     match Kind::of(kind) {
         Kind::Operator => set.partitions(kind, parameter).of_total(total),

@@ -14,3 +14,4 @@ pub use kinds::Kind;
 pub use refusals::Fault;
 pub use refusals::Refusal;
 pub use stacks::Stack;
+pub use stacks::wipe;

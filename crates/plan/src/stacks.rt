@@ -5,7 +5,7 @@ ghost use mathlib.Core.Bool.{cond};
 ghost use mathlib.Core.List.{[], _∷_, _++_};
 ghost use Prim.Native.Nat.{_+_, _-_, _<_};
 ghost use lib.Dec.{ltb};
-ghost use lib.ListN.{length};
+ghost use lib.ListN.{length, replicate};
 ghost use denote.Ref.{name};
 ghost use Rattle.std.specs.Vec.{listOf};
 ghost use Rattle.plan.specs.Stacks.{content, room, at-depth};
@@ -28,11 +28,27 @@ impl<'a, T: Copy> Stack<'a, T> {
         Stack { items, top }
     }
 
+    /// Takes all entries off.
+    pub fn clear(&mut self)
+        ensures loan { λ _. ⌜ name (now (self .exit) .items) ≡ name (now (self .entry) .items) ⌝ }
+        ensures content { λ _. ⌜ content (now (self .exit)) ≡ [] ⌝ }
+        ensures room { λ _. ⌜ room (now (self .exit)) ≡ length (now (now (self .entry) .items)) ⌝ }
+    {
+        self.top = self.items.len();
+    }
+
     /// How many entries it holds.
     pub fn len(&self) -> usize
         ensures { λ r. ⌜ r ≡ length (content (now (self .entry))) ⌝ }
     {
         self.items.len().saturating_sub(self.top)
+    }
+
+    /// How many entries more it can take.
+    pub fn room(&self) -> usize
+        ensures { λ r. ⌜ r ≡ room (now (self .entry)) ⌝ }
+    {
+        self.top.min(self.items.len())
     }
 
     /// One entry more; false where there is no room.
@@ -77,5 +93,14 @@ impl<'a, T: Copy> Stack<'a, T> {
             return None;
         }
         Some(items[self.top + depth])
+    }
+}
+
+/// Makes every entry of lent memory blank.
+pub fn wipe<T: Copy>(items: &mut [T], blank: T)
+    ensures { λ _. ⌜ now (items .exit) ≡ replicate (length (now (items .entry))) blank ⌝ }
+{
+    for item in items.iter_mut() {
+        *item = blank;
     }
 }

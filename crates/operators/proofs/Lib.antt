@@ -1,5 +1,5 @@
 mod Declarable
 mod Entries
-mod Exprs
+pub mod Exprs
 pub mod Lists
 mod Showing

@@ -1,0 +1,3 @@
+pub mod Walks
+mod Gathering
+pub mod Subtrees

@@ -59,7 +59,7 @@ impl<'a, T: Copy> Stack<'a, T> {
         ensures content { λ r. ⌜ content (now (self .exit)) ≡ cond r (entry ∷ content (now (self .entry))) (content (now (self .entry))) ⌝ }
         ensures room { λ _. ⌜ room (now (self .exit)) ≡ room (now (self .entry)) - 1 ⌝ }
     {
-        let top = self.top.min(self.items.len());
+        let top = self.room();
         if top == 0 {
             return false;
         }

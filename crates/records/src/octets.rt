@@ -1,16 +1,14 @@
 // Numbers as bytes, most significant first.
 ghost use mathlib.Core.Path.{_≡_};
-ghost use Prim.Native.Nat.{_≤_, _<_};
+ghost use Prim.Native.Nat.{_≤_};
 ghost use lib.ListN.{length};
-ghost use Rattle.std.specs.shelf.Lists.{All};
 ghost use Rattle.records.specs.Fields.{joined, cut};
 ghost use Rattle.records.specs.Record.{octets};
 
 /// The number that bytes write.
 pub fn read_number(bytes: &[u8]) -> u128
     requires { ⌜ length (now bytes) ≤ 16 ⌝ }
-    ensures value { λ r. ⌜ r ≡ joined (octets (length (now (bytes .entry)))) (now (bytes .entry)) ⌝ }
-    ensures small { λ _. ⌜ All (λ b. b < 256) (now (bytes .entry)) ⌝ }
+    ensures { λ r. ⌜ r ≡ joined (octets (length (now (bytes .entry)))) (now (bytes .entry)) ⌝ }
 {
     let mut number: u128 = 0;
     for byte in bytes {

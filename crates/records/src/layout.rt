@@ -1,5 +1,6 @@
 // A record as one number of 112 bits: where its fields stand.
 ghost use mathlib.Core.Path.{_≡_};
+ghost use Prim.Native.Nat.{_<_};
 ghost use Rattle.records.specs.Fields.{joined, cut};
 ghost use Rattle.records.specs.Record.{layout, values-of, cell-of, sound};
 use plan::Cell;
@@ -27,7 +28,8 @@ const NUMBERS: u128 = 1 << 40;
 
 /// The number of a cell's record.
 pub fn number_of(cell: &Cell) -> u128
-    ensures { λ r. ⌜ r ≡ joined layout (values-of (now (cell .entry))) ⌝ }
+    ensures value { λ r. ⌜ r ≡ joined layout (values-of (now (cell .entry))) ⌝ }
+    ensures kind { λ _. ⌜ now (cell .entry) .kind < 256 ⌝ }
 {
     let head = u128::from(cell.kind) * KIND
         + u128::from(cell.children) * CHILDREN

@@ -1,9 +1,10 @@
 // Plans as packed bytes.
 ghost use mathlib.Core.Path.{_≡_};
 ghost use mathlib.Core.List.{_++_, map};
-ghost use Prim.Native.Nat.{_+_, _*_, _/_, _%_, _≤_};
+ghost use Prim.Native.Nat.{_+_, _*_, _/_, _%_, _<_, _≤_};
 ghost use lib.ListN.{length, take, drop};
 ghost use Rattle.std.specs.Vec.{made};
+ghost use Rattle.std.specs.shelf.Lists.{All};
 ghost use Rattle.std.specs.declared.result.Result.the-variants.{Ok};
 ghost use Rattle.plan.specs.declared.refusals.Refusal.the-variants.{Packed, Fit, Fields};
 ghost use Rattle.plan.specs.Cells.{blank};
@@ -68,7 +69,8 @@ fn check_range(cells: &[Cell]) -> Result<(), Fault>
 
 fn write_plan(cells: &[Cell], out: &mut [u8])
     requires { ⌜ record-size * length (now cells) ≤ length (now out) ⌝ }
-    ensures { λ _. ⌜ now (out .exit) ≡ packed-plan (now (cells .entry)) ++ drop (record-size * length (now (cells .entry))) (now (out .entry)) ⌝ }
+    ensures bytes { λ _. ⌜ now (out .exit) ≡ packed-plan (now (cells .entry)) ++ drop (record-size * length (now (cells .entry))) (now (out .entry)) ⌝ }
+    ensures kinds { λ _. ⌜ All (λ c. c .kind < 256) (now (cells .entry)) ⌝ }
 {
     for place in 0..cells.len() {
         let at = RECORD * place;

@@ -6,7 +6,7 @@ ghost use Rattle.records.specs.Record.{layout, values-of, cell-of, sound};
 use plan::Cell;
 
 /// How many bytes a record has.
-pub const RECORD: usize = 14;
+pub(crate) const RECORD: usize = 14;
 
 // What 1 in each field adds to the number; extra, the last field, counts in ones.
 const KIND: u128 = 1 << 104;
@@ -27,7 +27,7 @@ const FETCH: u128 = 1 << 40;
 const NUMBERS: u128 = 1 << 40;
 
 /// The number of a cell's record.
-pub fn number_of(cell: &Cell) -> u128
+pub(crate) fn number_of(cell: &Cell) -> u128
     ensures value { λ r. ⌜ r ≡ joined layout (values-of (now (cell .entry))) ⌝ }
     ensures kind { λ _. ⌜ now (cell .entry) .kind < 256 ⌝ }
 {
@@ -43,14 +43,14 @@ pub fn number_of(cell: &Cell) -> u128
 }
 
 /// A record without the fetch bit has no fetch.
-pub fn is_sound(number: u128) -> bool
+pub(crate) fn is_sound(number: u128) -> bool
     ensures { λ r. ⌜ r ≡ sound (cut layout number) ⌝ }
 {
     number / FETCH_BIT % 2 == 1 || number / FETCH % NUMBERS == 0
 }
 
 /// The cell of a record's number.
-pub fn cell_of(number: u128) -> Cell
+pub(crate) fn cell_of(number: u128) -> Cell
     ensures { λ r. ⌜ r ≡ cell-of (cut layout number) ⌝ }
 {
     let fetch = (number / FETCH % NUMBERS) as u64;

@@ -6,7 +6,7 @@ ghost use Rattle.records.specs.Fields.{joined, cut};
 ghost use Rattle.records.specs.Record.{octets};
 
 /// The number that bytes write.
-pub fn read_number(bytes: &[u8]) -> u128
+pub(crate) fn read_number(bytes: &[u8]) -> u128
     requires { ⌜ length (now bytes) ≤ 16 ⌝ }
     ensures { λ r. ⌜ r ≡ joined (octets (length (now (bytes .entry)))) (now (bytes .entry)) ⌝ }
 {
@@ -18,7 +18,7 @@ pub fn read_number(bytes: &[u8]) -> u128
 }
 
 /// Writes a number's low bytes over all of `out`.
-pub fn write_number(number: u128, out: &mut [u8])
+pub(crate) fn write_number(number: u128, out: &mut [u8])
     ensures { λ _. ⌜ now (out .exit) ≡ cut (octets (length (now (out .entry)))) number ⌝ }
 {
     let mut left = number;

@@ -153,3 +153,58 @@ pub fn unpack(bytes: &[u8], table: &mut [Cell]) -> Result<usize, Fault>
     read_plan(bytes, table);
     Ok(count)
 }
+
+#[cfg(test)]
+mod tests {
+    use super::*;
+    use std::test::*;
+
+    // The refusal's number and place, or 0 and the count.
+    fn told(answer: Result<usize, Fault>) -> (u8, usize) {
+        match answer {
+            Ok(count) => (0, count),
+            Err(fault) => (fault.refusal.number(), fault.place),
+        }
+    }
+
+    #[test]
+    fn limit_there_and_back() -> Result<(), Fail> {
+        let limit = Cell {
+            kind: 2,
+            children: 1,
+            mark: true,
+            fetch: Some(5),
+            skip: 2,
+            ..Cell::BLANK
+        };
+        let mut bytes = [9; 15];
+        check_eq(told(pack(&[limit], &mut bytes)), (0, 14))?;
+        check_eq(bytes, [2, 4, 0, 6, 0, 0, 0, 0, 5, 0, 0, 0, 0, 2, 0])?;
+        let mut table = [Cell::BLANK; 1];
+        check_eq(told(unpack(&bytes[0..14], &mut table)), (0, 1))?;
+        let [back] = table;
+        check_eq((back.kind, back.fetch, back.skip), (2, Some(5), 2))?;
+        check_eq(told(unpack(&bytes, &mut table)), (1, 0))
+    }
+
+    #[test]
+    fn widths_are_kept() -> Result<(), Fail> {
+        let wide = Cell {
+            children: 63,
+            hint: Some(MAX_NUMBER),
+            ..Cell::BLANK
+        };
+        let wider = Cell {
+            children: 64,
+            ..Cell::BLANK
+        };
+        let larger = Cell {
+            fetch: Some(MAX_NUMBER + 1),
+            ..Cell::BLANK
+        };
+        let mut bytes = [0; 28];
+        check_eq(told(pack(&[wide, wide], &mut bytes)), (0, 28))?;
+        check_eq(told(pack(&[larger, wider], &mut bytes)), (5, 1))?;
+        check_eq(told(pack(&[wide, larger], &mut bytes)), (6, 1))
+    }
+}

@@ -17,9 +17,21 @@ record-size = 14
 abbrev pub parameter-width : ℕ
 parameter-width = 15
 
--- the widths of a record's fields: kind, child count, parameter, mark, fetch bit, hint bit, fetch, extra
+-- the widths of a record's fields in bits, most significant field first
 abbrev pub layout : List ℕ
-layout = 8 ∷ 6 ∷ parameter-width ∷ 1 ∷ 1 ∷ 1 ∷ 40 ∷ 40 ∷ []
+layout =
+    -- kind
+    8
+    -- child count
+    ∷ 6
+    -- parameter
+    ∷ parameter-width
+    -- mark, fetch bit, hint bit
+    ∷ 1 ∷ 1 ∷ 1
+    -- fetch
+    ∷ 40
+    -- extra
+    ∷ 40 ∷ []
 
 -- so many bytes are so many fields of 8 bits
 abbrev pub octets : ℕ → List ℕ

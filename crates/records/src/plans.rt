@@ -39,6 +39,7 @@ fn is_in_range(cell: &Cell) -> bool
         && (cell.hint.is_none() || cell.skip == 0)
 }
 
+// Refuses the first cell whose child count or parameter is too wide.
 fn check_fit(cells: &[Cell]) -> Result<(), Fault>
     ensures { λ r. ⌜ r ≡ all-pass Fit fits 0 (now (cells .entry)) ⌝ }
 {
@@ -53,6 +54,7 @@ fn check_fit(cells: &[Cell]) -> Result<(), Fault>
     Ok(())
 }
 
+// Refuses the first cell with a number that is too wide, or a hint beside a skip.
 fn check_range(cells: &[Cell]) -> Result<(), Fault>
     ensures { λ r. ⌜ r ≡ all-pass Fields in-range 0 (now (cells .entry)) ⌝ }
 {
@@ -67,6 +69,7 @@ fn check_range(cells: &[Cell]) -> Result<(), Fault>
     Ok(())
 }
 
+// Writes the records over the front of `out`, and leaves the rest of it.
 fn write_plan(cells: &[Cell], out: &mut [u8])
     requires { ⌜ record-size * length (now cells) ≤ length (now out) ⌝ }
     ensures bytes { λ _. ⌜ now (out .exit) ≡ packed-plan (now (cells .entry)) ++ drop (record-size * length (now (cells .entry))) (now (out .entry)) ⌝ }
@@ -78,12 +81,15 @@ fn write_plan(cells: &[Cell], out: &mut [u8])
     }
 }
 
-/// Packs a plan into the front of `out` and zeros what is left of it; answers how many bytes the plan takes. Refused, `out` stays.
+/// Packs a plan into the front of `out`, with zeros behind it, and answers how many bytes it takes.
+/// Refused, in this order, with `out` as it was: `Room` at 0 if the bytes do not suffice, `Fit` at the first cell whose child count
+/// or parameter is too large, `Fields` at the first whose fetch, hint or skip is too large or that has a hint beside a skip.
 pub fn pack(cells: &[Cell], out: &mut [u8]) -> Result<usize, Fault>
     ensures answer { λ r. ⌜ r ≡ counted (packing (now (cells .entry)) (length (now (out .entry)))) ⌝ }
     ensures bytes { λ _. ⌜ now (out .exit) ≡ laid 0 (packing (now (cells .entry)) (length (now (out .entry)))) (now (out .entry)) ⌝ }
     ensures undone { λ r. ⌜ made r (λ n. unpacking (take n (now (out .exit))) (length (now (cells .entry))) ≡ Ok (now (cells .entry))) ⌝ }
 {
+    // By a quotient, since the product may be too large for its type.
     if cells.len() > out.len() / RECORD {
         return Err(Fault {
             refusal: Refusal::Room,
@@ -106,6 +112,7 @@ fn number_at(bytes: &[u8], place: usize) -> u128
     read_number(&bytes[at..at + RECORD])
 }
 
+// Refuses the first record with a fetch but without its bit.
 fn check_records(bytes: &[u8]) -> Result<(), Fault>
     ensures { λ r. ⌜ r ≡ all-pass Packed sound 0 (plan-values (now (bytes .entry))) ⌝ }
 {
@@ -120,6 +127,7 @@ fn check_records(bytes: &[u8]) -> Result<(), Fault>
     Ok(())
 }
 
+// Writes the cells over the front of `table`, and leaves the rest of it.
 fn read_plan(bytes: &[u8], table: &mut [Cell])
     requires { ⌜ length (now bytes) / record-size ≤ length (now table) ⌝ }
     ensures { λ _. ⌜ now (table .exit) ≡ map cell-of (plan-values (now (bytes .entry))) ++ drop (length (now (bytes .entry)) / record-size) (now (table .entry)) ⌝ }
@@ -129,7 +137,9 @@ fn read_plan(bytes: &[u8], table: &mut [Cell])
     }
 }
 
-/// Unpacks a plan into the front of `table` and blanks what is left of it; answers how many cells it has. Refused, `table` stays.
+/// Unpacks a plan into the front of `table`, with blank cells behind it, and answers how many cells it has.
+/// Refused, in this order, with `table` as it was: `Packed` at 0 if the bytes are no whole records, `Packed` at the first record with
+/// a fetch but without its bit, `Room` at 0 if the cells do not suffice.
 pub fn unpack(bytes: &[u8], table: &mut [Cell]) -> Result<usize, Fault>
     ensures answer { λ r. ⌜ r ≡ counted (unpacking (now (bytes .entry)) (length (now (table .entry)))) ⌝ }
     ensures cells { λ _. ⌜ now (table .exit) ≡ laid blank (unpacking (now (bytes .entry)) (length (now (table .entry)))) (now (table .entry)) ⌝ }

@@ -1,6 +1,6 @@
 -- The record of a cell: a number of 112 bits, read as eight fields or as 14 bytes. Assumes nothing.
 use mathlib.Core.Bool.{Bool, true, false, cond, _||_}
-use mathlib.Core.List.{List, [], _∷_}
+use mathlib.Core.List.{List, [], _∷_, map}
 use Prim.Native.Nat.{ℕ}
 use lib.Dec.{eqb}
 use lib.ListN.{getD, replicate}
@@ -8,6 +8,7 @@ use Rattle.std.specs.Options.{isSome, valueOr}
 use Rattle.std.specs.declared.option.Option.{Option}
 use Rattle.std.specs.declared.option.Option.the-variants.{Some, None}
 use Rattle.plan.specs.declared.cells.Cell.{Cell}
+use Rattle.plan.specs.Cells.{blank}
 use Rattle.records.specs.Fields.{joined, cut}
 
 -- how many bytes a record has
@@ -16,22 +17,6 @@ record-size = 14
 
 abbrev pub parameter-width : ℕ
 parameter-width = 15
-
--- the widths of a record's fields in bits, most significant field first
-abbrev pub layout : List ℕ
-layout =
-    -- kind
-    8
-    -- child count
-    ∷ 6
-    -- parameter
-    ∷ parameter-width
-    -- mark, fetch bit, hint bit
-    ∷ 1 ∷ 1 ∷ 1
-    -- fetch
-    ∷ 40
-    -- extra
-    ∷ 40 ∷ []
 
 -- so many bytes are so many fields of 8 bits
 abbrev pub octets : ℕ → List ℕ
@@ -46,17 +31,32 @@ abbrev pub extra : Option ℕ → ℕ → ℕ
 extra (Some hint) skip = hint
 extra None skip = skip
 
--- the values of a cell's fields, in the layout's order
+-- the fields of a cell's record, each its width in bits and its value, the most significant first
+abbrev pub fields-of : Cell → List (ℕ × ℕ)
+fields-of c =
+    (8, c .kind)
+    ∷ (6, c .children)
+    ∷ (parameter-width, c .parameter)
+    ∷ (1, bit (c .mark))
+    ∷ (1, bit (isSome (c .fetch)))
+    ∷ (1, bit (isSome (c .hint)))
+    ∷ (40, valueOr (c .fetch) 0)
+    ∷ (40, extra (c .hint) (c .skip))
+    ∷ []
+
+-- the widths of the fields, which are those of any cell
+abbrev pub layout : List ℕ
+layout = map (λ field. field .0) (fields-of blank)
+
+-- the values of a cell's fields
 abbrev pub values-of : Cell → List ℕ
-values-of c =
-    c .kind ∷ c .children ∷ c .parameter ∷ bit (c .mark) ∷ bit (isSome (c .fetch)) ∷ bit (isSome (c .hint)) ∷ valueOr (c .fetch) 0
-    ∷ extra (c .hint) (c .skip) ∷ []
+values-of c = map (λ field. field .1) (fields-of c)
 
 -- a number that its bit says is there
 abbrev pub present : ℕ → ℕ → Option ℕ
 present b n = cond (eqb b 1) (Some n) None
 
--- the cell whose fields have these values
+-- the cell whose fields have these values, in the order above
 abbrev pub cell-of : List ℕ → Cell
 cell-of vs = record {
   kind = getD vs 0 0;

@@ -5,13 +5,13 @@ use mathlib.Core.List.{List, [], _∷_, _++_, map, map-map}
 use Prim.Native.Nat.{ℕ, zero, suc, _+_, _*_, _/_, _%_, _^_, _<_, _≤_}
 use native.Mathlib.Omega.{arith}
 use borrow.Author.Tests.{eqb-true, leb-true, le-leb, le-ltb, eq-eqb}
-use lib.Dec.{eqb, leb, ltb}
+use lib.Dec.{eqb, leb}
 use lib.ListN.{length, take, drop, getD}
 use Rattle.std.specs.Options.{isSome, valueOr}
 use Rattle.std.specs.shelf.Lists.{All}
 use Rattle.std.specs.declared.option.Option.{Option}
 use Rattle.std.specs.declared.option.Option.the-variants.{Some, None}
-use Rattle.std.specs.declared.result.Result.the-variants.{Ok, Err}
+use Rattle.std.specs.declared.result.Result.the-variants.{Ok}
 use Rattle.std.proofs.shelf.Elements.{all-take, all-drop}
 use Rattle.std.proofs.shelf.Lists.{length-map, length-take, length-drop, take-at, drop-at, take-append-drop, nil-from-length}
 use Rattle.std.proofs.shelf.Tests.{and-parts, and-from}
@@ -22,7 +22,7 @@ use Rattle.plan.specs.Numbers.{max-number, max-children, max-parameter}
 use Rattle.records.specs.Fields.{joined, cut}
 use Rattle.records.specs.Record.{record-size, layout, octets, bit, extra, values-of, present, cell-of, sound, packed, values-in}
 use Rattle.records.specs.Plans.{packed-plan, records, plan-values, fits, in-range, all-pass, packing, unpacking}
-use Rattle.records.proofs.Widths.{Below, below-cut, through}
+use Rattle.records.proofs.Widths.{Below, through}
 use Rattle.records.proofs.Passes.{passed, pass-map}
 use Rattle.records.proofs.Chunks.{length-values, length-packed}
 

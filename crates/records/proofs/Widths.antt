@@ -1,11 +1,11 @@
 -- Joining fields and cutting them undo each other, whatever the fields' widths.
-use mathlib.Core.Path.{_≡_, refl, sym, ap, ap₂, _∙_}
+use mathlib.Core.Path.{_≡_, refl, sym, ap, _∙_}
 use mathlib.Core.List.{List, [], _∷_}
-use Prim.Native.Nat.{ℕ, suc, _+_, _-_, _*_, _/_, _%_, _^_, _<_, _≤_}
-use native.Mathlib.Nat.{mod-eq-of-lt, mod-one, mod-mod, mod-lt, mul-assoc, mul-comm, add-mul, add-assoc}
+use Prim.Native.Nat.{ℕ, _+_, _-_, _*_, _/_, _%_, _^_, _<_}
+use native.Mathlib.Nat.{mod-eq-of-lt, mod-one, mod-mod, mul-assoc, mul-comm, add-mul}
 use native.Mathlib.Omega.{arith}
 use lib.Pow.{mod-mod-pow}
-use Rattle.std.proofs.shelf.Bits.{pow-pos, pow-add, field-of, shr-high, mod-low, mod-pow-add, mul-add-lt}
+use Rattle.std.proofs.shelf.Bits.{pow-add, field-of, shr-high, mod-low, mod-pow-add, mul-add-lt}
 use Rattle.records.specs.Fields.{bits, joined, cut}
 
 -- each value fits its width
@@ -48,10 +48,6 @@ cut-joined (w ∷ ws) (v ∷ vs) h =
 pub joined-cut : (ws : List ℕ) (n : ℕ) → joined ws (cut ws n) ≡ n % 2 ^ bits ws
 joined-cut [] n = sym (mod-one n)
 joined-cut (w ∷ ws) n = ap (λ (x : ℕ). n / 2 ^ bits ws % 2 ^ w * 2 ^ bits ws + x) (joined-cut ws n) ∙ sym (mod-pow-add n w (bits ws))
-
-pub below-cut : (ws : List ℕ) (n : ℕ) → Below ws (cut ws n)
-below-cut [] n = tt
-below-cut (w ∷ ws) n = (mod-lt (n / 2 ^ bits ws) (pow-pos w), below-cut ws n)
 
 -- values come back through any other fields of as many bits
 pub through : (ws us vs : List ℕ) → bits us ≡ bits ws → Below ws vs → cut ws (joined us (cut us (joined ws vs))) ≡ vs

@@ -1,4 +1,4 @@
-use mathlib.Core.Path.{_≡_, sym, _∙_}
+use mathlib.Core.Path.{sym, _∙_}
 use Rattle.plan.specs.declared.refusals.Refusal.the-variants.{Fields}
 use Rattle.plan.specs.Cells.{blank}
 use Rattle.records.specs.Plans.{in-range}

@@ -1,4 +1,4 @@
-use mathlib.Core.Path.{_≡_, refl, sym, ap, _∙_}
+use mathlib.Core.Path.{_≡_, sym, ap, _∙_}
 use mathlib.Core.List.{List, _++_, map}
 use Prim.Native.Nat.{ℕ, _/_, _-_, _%_, _<_}
 use native.Mathlib.Omega.{arith}
@@ -6,7 +6,7 @@ use borrow.Author.Tests.{le-ltb, eq-eqb}
 use lib.ListN.{length, take, drop, replicate}
 use Rattle.std.specs.shelf.Lists.{All}
 use Rattle.std.specs.declared.result.Result.{Result}
-use Rattle.std.specs.declared.result.Result.the-variants.{Ok, Err}
+use Rattle.std.specs.declared.result.Result.the-variants.{Ok}
 use Rattle.std.proofs.shelf.Elements.{all-from-getD}
 use Rattle.std.proofs.shelf.Lists.{length-map, take-at, drop-replicate}
 use Rattle.plan.specs.declared.cells.Cell.{Cell}

@@ -15,6 +15,7 @@ use Rattle.records.specs.Fields.{joined, cut}
 abbrev pub record-size : ℕ
 record-size = 14
 
+-- how many bits the parameter has
 abbrev pub parameter-width : ℕ
 parameter-width = 15
 
@@ -22,6 +23,7 @@ parameter-width = 15
 abbrev pub octets : ℕ → List ℕ
 octets size = replicate size 8
 
+-- a flag as a field of one bit
 abbrev pub bit : Bool → ℕ
 bit true = 1
 bit false = 0

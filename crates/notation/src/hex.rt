@@ -42,7 +42,8 @@ fn digit_char(value: u8) -> char
     }
 }
 
-fn is_blank(byte: u8) -> bool
+/// A space or a tab.
+pub fn is_blank(byte: u8) -> bool
     ensures { λ r. ⌜ r ≡ is-blank byte ⌝ }
 {
     byte == b' ' || byte == b'\t'

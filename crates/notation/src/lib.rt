@@ -1,6 +1,9 @@
 // Plans and packed bytes as text: read, written, and drawn as trees.
+mod cursor;
 mod hex;
+mod letters;
 mod problems;
+mod words;
 
 pub use hex::read_hex;
 pub use hex::write_hex;

@@ -2,6 +2,7 @@
 mod cursor;
 mod hex;
 mod letters;
+mod nodes;
 mod problems;
 mod words;
 

@@ -28,7 +28,8 @@ impl<'a> Cursor<'a> {
 
     /// The byte at the cursor; none at the end.
     pub fn peek(&self) -> Option<u8>
-        ensures { λ r. ⌜ r ≡ first (drop (now (self .entry) .place) (now (now (self .entry) .text))) ⌝ }
+        ensures value { λ r. ⌜ r ≡ first (drop (now (self .entry) .place) (now (now (self .entry) .text))) ⌝ }
+        ensures within { λ r. ⌜ found r (λ _. now (self .entry) .place < length (now (now (self .entry) .text))) ⌝ }
     {
         if self.place >= self.text.len() {
             return None;
@@ -49,7 +50,7 @@ impl<'a> Cursor<'a> {
     }
 
     /// Steps over a byte that is due.
-    fn expect(&mut self, byte: u8, problem: Problem) -> Result<(), Problem>
+    pub fn expect(&mut self, byte: u8, problem: Problem) -> Result<(), Problem>
         ensures onward { λ _. ⌜ Onward (now (self .entry)) (now (self .exit)) ⌝ }
     {
         if self.take(byte) { Ok(()) } else { Err(problem) }
@@ -78,8 +79,8 @@ impl<'a> Cursor<'a> {
         Some(digit)
     }
 
-    // A number of digits, at most so large; the problem else.
-    fn number(&mut self, most: u64, problem: Problem) -> Result<u64, Problem>
+    /// A number of digits, at most so large; the problem else.
+    pub fn number(&mut self, most: u64, problem: Problem) -> Result<u64, Problem>
         ensures onward { λ _. ⌜ Onward (now (self .entry)) (now (self .exit)) ⌝ }
         ensures some { λ r. ⌜ made r (λ n. (n ≤ most) × (now (self .entry) .place < now (self .exit) .place)) ⌝ }
     {

@@ -4,7 +4,7 @@ use Rattle.plan.specs.Stacks.{first}
 use Rattle.notation.proofs.cursor.Cursor.peek.Needs as need
 
 pub returns-then-self : need.returns-then-self
-returns-then-self c = sym (ap first (drop-all (c .args .self .now .place) (c .args .self .now .text .now) (c .if-self .taken)))
+returns-then-self c = record { value = sym (ap first (drop-all (c .args .self .now .place) (c .args .self .now .text .now) (c .if-self .taken))); within = tt }
 
 pub returns : need.returns
-returns c = sym (ap first (drop-more (c .args .self .now .text .now) (c .args .self .now .place) 0 (c .if-self .left)))
+returns c = record { value = sym (ap first (drop-more (c .args .self .now .text .now) (c .args .self .now .place) 0 (c .if-self .left))); within = c .if-self .left }

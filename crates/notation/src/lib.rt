@@ -3,6 +3,7 @@ mod cursor;
 mod hex;
 mod letters;
 mod nodes;
+mod plans;
 mod problems;
 mod words;
 

@@ -41,13 +41,13 @@ pub enum Problem {
     NoMemory,
 }
 
-impl From<AllocError> for Problem as ProblemFromAlloc {
+pub impl From<AllocError> for Problem as ProblemFromAlloc {
     fn from(_e: AllocError) -> Problem {
         Problem::NoMemory
     }
 }
 
-impl<T: Drop> From<Refused<T>> for Problem as ProblemFromRefused {
+pub impl<T: Drop> From<Refused<T>> for Problem as ProblemFromRefused {
     fn from(_e: Refused<T>) -> Problem {
         Problem::NoMemory
     }

@@ -1,4 +1,5 @@
 // Plans and packed bytes as text: read, written, and drawn as trees.
+mod awaited;
 mod cursor;
 mod hex;
 mod letters;

@@ -1,28 +1,30 @@
 // The letters of kinds.
 ghost use mathlib.Core.Path.{_≡_};
-ghost use Prim.Native.Nat.{ℕ};
+ghost use Prim.Native.Nat.{ℕ, _<_};
 ghost use Rattle.std.specs.Options.{Cases};
+ghost use Rattle.std.specs.Slices.{found};
 ghost use Rattle.std.specs.declared.option.Option.the-variants.{Some};
 ghost use Rattle.notation.specs.Letters.{letter-of};
 
 /// The letter of a kind, if it has one.
-pub fn letter_of(kind: u8) -> Option<u8>
-    ensures { λ r. ⌜ r ≡ letter-of kind ⌝ }
+pub fn letter_of(kind: u8) -> Option<char>
+    ensures value { λ r. ⌜ r ≡ letter-of kind ⌝ }
+    ensures ascii { λ r. ⌜ found r (λ l. l < 128) ⌝ }
 {
     match kind {
-        0 => Some(b'E'),
-        1 => Some(b'R'),
-        2 => Some(b'G'),
-        3 => Some(b'L'),
-        4 => Some(b'P'),
-        5 => Some(b'C'),
-        6 => Some(b'M'),
-        7 => Some(b'S'),
-        8 => Some(b'W'),
-        9 => Some(b'A'),
-        16 => Some(b'H'),
-        17 => Some(b'F'),
-        18 => Some(b'U'),
+        0 => Some('E'),
+        1 => Some('R'),
+        2 => Some('G'),
+        3 => Some('L'),
+        4 => Some('P'),
+        5 => Some('C'),
+        6 => Some('M'),
+        7 => Some('S'),
+        8 => Some('W'),
+        9 => Some('A'),
+        16 => Some('H'),
+        17 => Some('F'),
+        18 => Some('U'),
         _ => None,
     }
 }

@@ -1,7 +1,6 @@
 // Plans and packed bytes as text: read, written, and drawn as trees.
 mod awaited;
 mod cursor;
-
 mod hex;
 mod letters;
 mod levels;
@@ -9,10 +8,11 @@ mod nodes;
 mod plans;
 mod problems;
 mod words;
+mod writes;
 
-pub use levels::depths;
 pub use hex::read_hex;
 pub use hex::write_hex;
+pub use levels::depths;
 pub use plans::read_plan;
 pub use problems::Problem;
 pub use problems::ProblemDisplay;

@@ -42,3 +42,23 @@ mark-text c = cond (c .mark) (codes "!") []
 -- a node without its children
 abbrev pub node-text : Cell → List ℕ
 node-text c = head-text c ++ (limits-text c ++ (enclosed-text (codes "{") (c .hint) (codes "}") ++ (plus-text c ++ mark-text c)))
+
+-- what stands behind a node with so many children: `(` before several and a blank before one; behind a complete tree a `)` for each
+-- node that it completes, and a comma before a sibling
+abbrev pub link-text : ℕ → List ℕ → List ℕ
+link-text children awaited =
+    cond (ltb 1 children) (codes "(") (cond (eqb children 1) (codes " ") (replicate (completes awaited) 41 ++ cond (eqb (length (after-tree awaited)) 0) [] (codes ", ")))
+
+-- what is awaited behind it: one child is not written between parentheses, so it is not counted
+abbrev pub linked : ℕ → List ℕ → List ℕ
+linked children awaited = cond (ltb 1 children) (children ∷ awaited) (cond (eqb children 1) awaited (after-tree awaited))
+
+-- whether a further node is due
+abbrev pub still-due : ℕ → List ℕ → Bool
+still-due children awaited = cond (eqb children 0) (not (eqb (length (after-tree awaited)) 0)) true
+
+-- cells in the notation: ` | ` before a cell behind a complete tree, and `?` at the end where a node is due and there is none
+abbrev pub written : Bool → List ℕ → List Cell → List ℕ
+written due awaited [] = cond due (codes "?") []
+written due awaited (c ∷ cs) =
+    cond due [] (codes " | ") ++ (node-text c ++ (link-text (c .children) awaited ++ written (still-due (c .children) awaited) (linked (c .children) awaited) cs))

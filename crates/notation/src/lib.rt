@@ -17,3 +17,4 @@ pub use plans::read_plan;
 pub use problems::Problem;
 pub use problems::ProblemDisplay;
 pub use problems::Slip;
+pub use writes::write_plan;

@@ -1,8 +1,13 @@
 // Cells written in the notation.
 ghost use mathlib.Core.Path.{_≡_};
+ghost use mathlib.Core.Bool.{true};
+ghost use mathlib.Core.List.{[], _++_};
+ghost use lib.ListN.{replicate};
 ghost use Rattle.std.specs.Of.String.{string-bytes};
 ghost use Rattle.std.specs.Vec.{made};
-ghost use Rattle.notation.specs.Written.{fetch-text, enclosed-text, head-text, limits-text, plus-text, mark-text, node-text};
+ghost use Rattle.notation.specs.Written.{fetch-text, enclosed-text, head-text, limits-text, plus-text, node-text, link-text, linked, still-due, written};
+ghost use Rattle.notation.specs.Awaits.{awaiting};
+use crate::awaited::Awaited;
 use crate::letters::letter_of;
 use plan::Cell;
 use std::alloc::AllocError;
@@ -81,4 +86,57 @@ fn node_text(heap: Global, cell: &Cell) -> Result<String, AllocError>
     let plus = plus_text(heap, cell)?;
     let mark = if cell.mark { "!" } else { "" };
     format!(heap, "{head}{limits}{hint}{plus}{mark}")
+}
+
+// So many closing parentheses.
+fn write_closing(out: &mut String, count: usize) -> Result<(), AllocError>
+    ensures { λ r. ⌜ made r (λ _. string-bytes (now (out .exit)) ≡ string-bytes (now (out .entry)) ++ replicate count 41) ⌝ }
+{
+    for _i in 0..count {
+        out.push_str(")")?;
+    }
+    Ok(())
+}
+
+// What stands behind a node with so many children. Gives whether a further node is due.
+fn write_link(out: &mut String, awaited: &mut Awaited, children: u8) -> Result<bool, AllocError>
+    ensures text { λ r. ⌜ made r (λ _. string-bytes (now (out .exit)) ≡ string-bytes (now (out .entry)) ++ link-text children (awaiting (now (awaited .entry)))) ⌝ }
+    ensures after { λ r. ⌜ made r (λ _. awaiting (now (awaited .exit)) ≡ linked children (awaiting (now (awaited .entry)))) ⌝ }
+    ensures due { λ r. ⌜ made r (λ d. d ≡ still-due children (awaiting (now (awaited .entry)))) ⌝ }
+{
+    if children > 1 {
+        awaited.await_children(children)?;
+        out.push_str("(")?;
+        return Ok(true);
+    }
+    if children == 1 {
+        out.push_str(" ")?;
+        return Ok(true);
+    }
+    let completed = awaited.complete();
+    write_closing(out, completed)?;
+    if awaited.depth() == 0 {
+        return Ok(false);
+    }
+    out.push_str(", ")?;
+    Ok(true)
+}
+
+/// The cells in the notation. Where they are several trees, ` | ` stands between them; where cells are missing at the end, `?` does.
+pub fn write_plan(heap: Global, cells: &[Cell]) -> Result<String, AllocError>
+    ensures { λ r. ⌜ made r (λ s. string-bytes s ≡ written true [] (now (cells .entry))) ⌝ }
+{
+    let mut out = String::new(heap);
+    let mut awaited = Awaited::new(heap);
+    let mut due = true;
+    for cell in cells {
+        let gap = if due { "" } else { " | " };
+        out.push_str(gap)?;
+        let node = node_text(heap, cell)?;
+        out.push_str(node.as_str())?;
+        due = write_link(&mut out, &mut awaited, cell.children)?;
+    }
+    let end = if due { "?" } else { "" };
+    out.push_str(end)?;
+    Ok(out)
 }

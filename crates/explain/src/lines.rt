@@ -100,7 +100,11 @@ fn fetch_text(heap: Global, fetch: Option<u64>, kind: u8) -> Result<String, Allo
     match fetch {
         Some(n) => some_fetch(heap, n, kind),
         None => {
-            let none = if kind == GLOBAL_LIMIT || kind == LOCAL_LIMIT { "fetch=None" } else { "" };
+            let none = if kind == GLOBAL_LIMIT || kind == LOCAL_LIMIT {
+                "fetch=None"
+            } else {
+                ""
+            };
             String::from_str(heap, none)
         }
     }

@@ -122,7 +122,13 @@ impl<'a> Cursor<'a> {
     }
 
     // Hint, skip and mark, behind the rest of a node. `plus` says that a skip may be written here.
-    fn suffixes(&mut self, kind: u8, parameter: u32, limits: Limits, plus: bool) -> Result<Cell, Problem>
+    fn suffixes(
+        &mut self,
+        kind: u8,
+        parameter: u32,
+        limits: Limits,
+        plus: bool,
+    ) -> Result<Cell, Problem>
         requires { ⌜ parameter ≤ max-parameter ⌝ ∗ ⌜ limits .skip ≤ max-number ⌝ ∗ ⌜ found (limits .fetch) (λ n. n ≤ max-number) ⌝ }
         ensures onward { λ _. ⌜ Onward (now (self .entry)) (now (self .exit)) ⌝ }
         ensures packs { λ r. ⌜ made r (λ c. Packs c × (c .children ≡ 0)) ⌝ }

@@ -39,7 +39,11 @@ fn count_child(cells: &mut Vec<Cell>, parent: usize) -> Result<(), Problem>
 }
 
 // Behind a complete tree: closes parentheses, and gives the parent of the next tree; none at the end of the plan.
-fn close(cursor: &mut Cursor, parents: &mut Vec<usize>, last: usize) -> Result<Option<usize>, Problem>
+fn close(
+    cursor: &mut Cursor,
+    parents: &mut Vec<usize>,
+    last: usize,
+) -> Result<Option<usize>, Problem>
     requires { ⌜ All (λ p. p ≤ last) (vec-items (now parents)) ⌝ }
     ensures onward { λ _. ⌜ Onward (now (cursor .entry)) (now (cursor .exit)) ⌝ }
     ensures kept { λ _. ⌜ All (λ p. p ≤ last) (vec-items (now (parents .exit))) ⌝ }
@@ -54,7 +58,11 @@ fn close(cursor: &mut Cursor, parents: &mut Vec<usize>, last: usize) -> Result<O
     }
     let next = cursor.peek();
     if parents.is_empty() {
-        return if next.is_none() { Ok(None) } else { Err(Problem::Trailing) };
+        return if next.is_none() {
+            Ok(None)
+        } else {
+            Err(Problem::Trailing)
+        };
     }
     let parent = parents[parents.len() - 1];
     match next {
@@ -68,7 +76,11 @@ fn close(cursor: &mut Cursor, parents: &mut Vec<usize>, last: usize) -> Result<O
 }
 
 // Behind a node: the parent of the next one, which is that node if it has children; none at the end of the plan.
-fn next_parent(cursor: &mut Cursor, parents: &mut Vec<usize>, last: usize) -> Result<Option<usize>, Problem>
+fn next_parent(
+    cursor: &mut Cursor,
+    parents: &mut Vec<usize>,
+    last: usize,
+) -> Result<Option<usize>, Problem>
     requires { ⌜ All (λ p. p ≤ last) (vec-items (now parents)) ⌝ }
     ensures onward { λ _. ⌜ Onward (now (cursor .entry)) (now (cursor .exit)) ⌝ }
     ensures kept { λ r. ⌜ made r (λ _. All (λ p. p ≤ last) (vec-items (now (parents .exit)))) ⌝ }

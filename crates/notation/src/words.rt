@@ -53,7 +53,11 @@ impl<'a> Cursor<'a> {
     pub fn expect(&mut self, byte: u8, problem: Problem) -> Result<(), Problem>
         ensures onward { λ _. ⌜ Onward (now (self .entry)) (now (self .exit)) ⌝ }
     {
-        if self.take(byte) { Ok(()) } else { Err(problem) }
+        if self.take(byte) {
+            Ok(())
+        } else {
+            Err(problem)
+        }
     }
 
     /// Steps over blanks.

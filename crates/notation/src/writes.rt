@@ -24,7 +24,12 @@ fn fetch_text(heap: Global, fetch: Option<u64>) -> Result<String, AllocError>
 }
 
 // A number between brackets, if there is one.
-fn enclosed_text(heap: Global, before: &str, number: Option<u64>, after: &str) -> Result<String, AllocError>
+fn enclosed_text(
+    heap: Global,
+    before: &str,
+    number: Option<u64>,
+    after: &str,
+) -> Result<String, AllocError>
     ensures { λ r. ⌜ made r (λ s. string-bytes s ≡ enclosed-text (now (before .entry)) number (now (after .entry))) ⌝ }
 {
     match number {

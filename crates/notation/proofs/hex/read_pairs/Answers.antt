@@ -43,20 +43,20 @@ loop-place-again c =
     let bytes = vec-items (c .loop-place .bytes) in
     let step = c .loop-place .inv .0 ∙ at-drop-more (hex-read bytes (c .loop-place .high) i) xs i 0 (c .loop-place-test .taken) in
     elim (c .match-digit-value .came) [
-      in-Some-Some·else-is-err w ↦
-        let known : digit-of (getD xs i 0) ≡ Some (w .in-Some-Some .low) = cc in
-        let turn = low-digit bytes (w .in-Some-Some .high-digit) i (getD xs i 0) (w .in-Some-Some .low) (drop (i + 1) xs) known in
-        let pushed = chosen _ _ _ _ (w .push .ensures .items) (w .if-is-err .ensures tt .test) in
-        (cc, search needs)
-    | in-Some-None w ↦
-        let known : digit-of (getD xs i 0) ≡ Some (w .in-Some-None .digit) = cc in
-        let turn = high-digit bytes i (getD xs i 0) (w .in-Some-None .digit) (drop (i + 1) xs) known in
-        (cc, search needs)
-    | in-None-None·else-not-is-blank w ↦
-        let known : digit-of (getD xs i 0) ≡ None = cc in
-        let blank : is-blank (getD xs i 0) ≡ true = cc in
-        let turn = blank-between bytes i (getD xs i 0) (drop (i + 1) xs) known blank in
-        (cc, search needs)
+      | in-Some-Some·else-is-err w ↦
+          let known : digit-of (getD xs i 0) ≡ Some (w .in-Some-Some .low) = cc in
+          let turn = low-digit bytes (w .in-Some-Some .high-digit) i (getD xs i 0) (w .in-Some-Some .low) (drop (i + 1) xs) known in
+          let pushed = chosen _ _ _ _ (w .push .ensures .items) (w .if-is-err .ensures tt .test) in
+          (cc, search needs)
+      | in-Some-None w ↦
+          let known : digit-of (getD xs i 0) ≡ Some (w .in-Some-None .digit) = cc in
+          let turn = high-digit bytes i (getD xs i 0) (w .in-Some-None .digit) (drop (i + 1) xs) known in
+          (cc, search needs)
+      | in-None-None·else-not-is-blank w ↦
+          let known : digit-of (getD xs i 0) ≡ None = cc in
+          let blank : is-blank (getD xs i 0) ≡ true = cc in
+          let turn = blank-between bytes i (getD xs i 0) (drop (i + 1) xs) known blank in
+          (cc, search needs)
     ]
 
 pub returns-in-Some : need.returns-in-Some

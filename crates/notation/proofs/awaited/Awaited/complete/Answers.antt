@@ -28,10 +28,11 @@ loop-self-again c =
     let long : length items ≡ n + 1 = search needs in
     let is : x ≡ getD items n 0 = getD-read-under items n (length items) x 0 (c .index-count .ensures) (omega arith) refl in
     let turn = none-left items n x long is (c .if-count-gt1 .left) in
-    let cut = c .truncate .ensures .items in
-    (c .loop-self .inv .0 ∙ turn .0 ∙ ap (λ (l : List ℕ). after-tree (reverse l)) (sym cut),
-     omega (arith, c .loop-self .inv .1, turn .1, ap (λ (l : List ℕ). completes (reverse l)) cut),
-     search needs)
+    let cut = c .truncate .ensures .items in (
+      c .loop-self .inv .0 ∙ turn .0 ∙ ap (λ (l : List ℕ). after-tree (reverse l)) (sym cut),
+      omega (arith, c .loop-self .inv .1, turn .1, ap (λ (l : List ℕ). completes (reverse l)) cut),
+      search needs,
+    )
 
 pub returns : need.returns
 returns c =

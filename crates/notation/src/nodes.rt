@@ -9,11 +9,11 @@ ghost use Rattle.plan.specs.Numbers.{max-number, max-parameter};
 ghost use Rattle.notation.specs.Cursors.{Onward};
 ghost use Rattle.notation.specs.Widths.{Packs};
 use crate::cursor::Cursor;
-use crate::letters::kind_of;
-use crate::problems::Problem;
 use plan::Cell;
 use plan::MAX_NUMBER;
 use plan::MAX_PARAMETER;
+use text::Problem;
+use text::kind_of;
 
 const GLOBAL_LIMIT: u8 = 2;
 

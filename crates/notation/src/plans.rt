@@ -11,13 +11,13 @@ ghost use Rattle.plan.specs.Numbers.{max-nodes, max-children};
 ghost use Rattle.notation.specs.Cursors.{Onward};
 ghost use Rattle.notation.specs.Trees.{child-counted, Read-plan};
 use crate::cursor::Cursor;
-use crate::problems::Problem;
-use crate::problems::ProblemFromRefused;
-use crate::problems::Slip;
 use plan::Cell;
 use plan::MAX_CHILDREN;
 use plan::MAX_NODES;
 use std::alloc::Global;
+use text::Problem;
+use text::ProblemFromRefused;
+use text::Slip;
 
 // One child more for the cell at a place, and so one cell more for the plan.
 fn count_child(cells: &mut Vec<Cell>, parent: usize) -> Result<(), Problem>

@@ -9,8 +9,8 @@ ghost use Rattle.std.specs.Vec.{made};
 ghost use Rattle.plan.specs.Stacks.{first};
 ghost use Rattle.notation.specs.Cursors.{Onward};
 use crate::cursor::Cursor;
-use crate::hex::is_blank;
-use crate::problems::Problem;
+use text::Problem;
+use text::is_blank;
 
 impl<'a> Cursor<'a> {
     pub fn new(text: &'a [u8]) -> Cursor<'a>

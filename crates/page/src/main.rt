@@ -1,16 +1,16 @@
 // Reads plans from standard input, one a line, and prints each under its number, as text and as a tree. Blank lines and lines that
 // begin with `#` are passed over. A line that cannot be read is named with its column, and the lines behind it are still served.
 use explain::describe;
-use notation::ProblemDisplay;
-use notation::Slip;
-use notation::depths;
-use notation::read_hex;
 use notation::read_plan;
-use notation::write_hex;
-use notation::write_plan;
 use plan::Cell;
 use std::alloc::Global;
 use std::io;
+use text::ProblemDisplay;
+use text::Slip;
+use text::read_hex;
+use text::write_hex;
+use writing::depths;
+use writing::write_plan;
 
 const PACKED: &str = "packed";
 

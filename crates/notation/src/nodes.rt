@@ -1,0 +1,199 @@
+// One node of a plan, read from a place on: `H4`, `20:4`, `G(2,5)!`, `A0{5}`.
+ghost use mathlib.Core.Path.{_≡_};
+ghost use mathlib.Core.Logic.{_⊎_};
+ghost use Prim.Native.Nat.{_<_, _≤_};
+ghost use Rattle.std.specs.Slices.{found};
+ghost use Rattle.std.specs.Vec.{made};
+ghost use Rattle.std.specs.declared.option.Option.the-variants.{None};
+ghost use Rattle.plan.specs.Numbers.{max-number, max-parameter};
+ghost use Rattle.notation.specs.Cursors.{Onward};
+ghost use Rattle.notation.specs.Widths.{Packs};
+use crate::cursor::Cursor;
+use plan::Cell;
+use plan::MAX_NUMBER;
+use plan::MAX_PARAMETER;
+use text::Problem;
+use text::kind_of;
+
+const GLOBAL_LIMIT: u8 = 2;
+
+const LOCAL_LIMIT: u8 = 3;
+
+/// The skip and the fetch of a node.
+#[derive(Clone, Copy)]
+pub struct Limits {
+    pub skip: u64,
+    pub fetch: Option<u64>,
+}
+
+impl<'a> Cursor<'a> {
+    // A skip, a fetch or a hint.
+    fn amount(&mut self) -> Result<u64, Problem>
+        ensures onward { λ _. ⌜ Onward (now (self .entry)) (now (self .exit)) ⌝ }
+        ensures small { λ r. ⌜ made r (λ n. n ≤ max-number) ⌝ }
+    {
+        self.number(MAX_NUMBER, Problem::NumberTooLarge)
+    }
+
+    // A parameter.
+    fn parameter(&mut self) -> Result<u32, Problem>
+        ensures onward { λ _. ⌜ Onward (now (self .entry)) (now (self .exit)) ⌝ }
+        ensures small { λ r. ⌜ made r (λ n. n ≤ max-parameter) ⌝ }
+    {
+        let number = self.number(u64::from(MAX_PARAMETER), Problem::ParameterTooLarge)?;
+        Ok(number as u32)
+    }
+
+    // A number between brackets, if one opens here.
+    fn bracketed(&mut self, open: u8, close: u8) -> Result<Option<u64>, Problem>
+        ensures onward { λ _. ⌜ Onward (now (self .entry)) (now (self .exit)) ⌝ }
+        ensures small { λ r. ⌜ made r (λ o. found o (λ n. n ≤ max-number)) ⌝ }
+    {
+        if !self.take(open) {
+            return Ok(None);
+        }
+        let number = self.amount()?;
+        self.expect(close, Problem::ExpectedClosing)?;
+        Ok(Some(number))
+    }
+
+    // A fetch, or `-` for none, and the closing parenthesis.
+    fn last_limit(&mut self) -> Result<Option<u64>, Problem>
+        ensures onward { λ _. ⌜ Onward (now (self .entry)) (now (self .exit)) ⌝ }
+        ensures small { λ r. ⌜ made r (λ o. found o (λ n. n ≤ max-number)) ⌝ }
+    {
+        let fetch = if self.take(b'-') {
+            None
+        } else {
+            Some(self.amount()?)
+        };
+        self.expect(b')', Problem::ExpectedClosing)?;
+        Ok(fetch)
+    }
+
+    // What stands behind a letter and its parameter: `(skip,fetch)` behind G, `(fetch)` behind L, else `[fetch]` or nothing.
+    fn limits(&mut self, kind: u8) -> Result<Limits, Problem>
+        ensures onward { λ _. ⌜ Onward (now (self .entry)) (now (self .exit)) ⌝ }
+        ensures small { λ r. ⌜ made r (λ l. (l .skip ≤ max-number) × found (l .fetch) (λ n. n ≤ max-number)) ⌝ }
+    {
+        if kind != GLOBAL_LIMIT && kind != LOCAL_LIMIT {
+            let fetch = self.bracketed(b'[', b']')?;
+            return Ok(Limits { skip: 0, fetch });
+        }
+        self.expect(b'(', Problem::ExpectedLimits)?;
+        let mut skip = 0;
+        if kind == GLOBAL_LIMIT {
+            skip = self.amount()?;
+            self.expect(b',', Problem::ExpectedComma)?;
+        }
+        let fetch = self.last_limit()?;
+        Ok(Limits { skip, fetch })
+    }
+
+    // A hint, if there is one. It cannot stand beside a skip above 0.
+    fn hint(&mut self, skip: u64) -> Result<Option<u64>, Problem>
+        ensures onward { λ _. ⌜ Onward (now (self .entry)) (now (self .exit)) ⌝ }
+        ensures small { λ r. ⌜ made r (λ o. found o (λ n. n ≤ max-number) × ((o ≡ None) ⊎ (skip ≡ 0))) ⌝ }
+    {
+        let start = self.place;
+        let hint = self.bracketed(b'{', b'}')?;
+        if hint.is_some() && skip > 0 {
+            self.place = start;
+            return Err(Problem::HintBesideSkip);
+        }
+        Ok(hint)
+    }
+
+    // The skip of a node that is no G, if one is written. It cannot stand beside a hint.
+    fn own_skip(&mut self, hint: Option<u64>) -> Result<u64, Problem>
+        ensures onward { λ _. ⌜ Onward (now (self .entry)) (now (self .exit)) ⌝ }
+        ensures small { λ r. ⌜ made r (λ n. (n ≤ max-number) × ((hint ≡ None) ⊎ (n ≡ 0))) ⌝ }
+    {
+        let start = self.place;
+        if !self.take(b'+') {
+            return Ok(0);
+        }
+        let skip = self.amount()?;
+        if hint.is_some() && skip > 0 {
+            self.place = start;
+            return Err(Problem::HintBesideSkip);
+        }
+        Ok(skip)
+    }
+
+    // Hint, skip and mark, behind the rest of a node. `plus` says that a skip may be written here.
+    fn suffixes(
+        &mut self,
+        kind: u8,
+        parameter: u32,
+        limits: Limits,
+        plus: bool,
+    ) -> Result<Cell, Problem>
+        requires { ⌜ parameter ≤ max-parameter ⌝ ∗ ⌜ limits .skip ≤ max-number ⌝ ∗ ⌜ found (limits .fetch) (λ n. n ≤ max-number) ⌝ }
+        ensures onward { λ _. ⌜ Onward (now (self .entry)) (now (self .exit)) ⌝ }
+        ensures packs { λ r. ⌜ made r (λ c. Packs c × (c .children ≡ 0)) ⌝ }
+    {
+        let hint = self.hint(limits.skip)?;
+        let mut skip = limits.skip;
+        if plus {
+            skip = self.own_skip(hint)?;
+        }
+        let mark = self.take(b'!');
+        Ok(Cell {
+            kind,
+            children: 0,
+            parameter,
+            mark,
+            fetch: limits.fetch,
+            hint,
+            skip,
+        })
+    }
+
+    // A node by its kind in digits: `20:4`.
+    fn numbered(&mut self) -> Result<Cell, Problem>
+        ensures onward { λ _. ⌜ Onward (now (self .entry)) (now (self .exit)) ⌝ }
+        ensures some { λ r. ⌜ made r (λ c. Packs c × (c .children ≡ 0) × (now (self .entry) .place < now (self .exit) .place)) ⌝ }
+    {
+        let kind = self.number(255, Problem::KindTooLarge)? as u8;
+        self.expect(b':', Problem::ExpectedColon)?;
+        let parameter = self.parameter()?;
+        let fetch = self.bracketed(b'[', b']')?;
+        self.suffixes(kind, parameter, Limits { skip: 0, fetch }, true)
+    }
+
+    // What stands behind a node's letter.
+    fn lettered(&mut self, kind: u8) -> Result<Cell, Problem>
+        ensures onward { λ _. ⌜ Onward (now (self .entry)) (now (self .exit)) ⌝ }
+        ensures some { λ r. ⌜ made r (λ c. Packs c × (c .children ≡ 0)) ⌝ }
+    {
+        let mut parameter = 0;
+        if let Some(b'0'..=b'9') = self.peek() {
+            parameter = self.parameter()?;
+        }
+        let limits = self.limits(kind)?;
+        self.suffixes(kind, parameter, limits, kind != GLOBAL_LIMIT)
+    }
+
+    /// A node without its children.
+    pub fn node(&mut self) -> Result<Cell, Problem>
+        ensures onward { λ _. ⌜ Onward (now (self .entry)) (now (self .exit)) ⌝ }
+        ensures some { λ r. ⌜ made r (λ c. Packs c × (c .children ≡ 0) × (now (self .entry) .place < now (self .exit) .place)) ⌝ }
+    {
+        let Some(byte) = self.peek() else {
+            return Err(Problem::ExpectedNode);
+        };
+        if byte.is_ascii_digit() {
+            return self.numbered();
+        }
+        if let Some(kind) = kind_of(byte) {
+            self.place += 1;
+            return self.lettered(kind);
+        }
+        if byte.is_ascii_alphabetic() {
+            Err(Problem::UnknownKind)
+        } else {
+            Err(Problem::ExpectedNode)
+        }
+    }
+}

@@ -1,0 +1,105 @@
+// The words of a text, read from a place on. A problem leaves the cursor at the character that it is about.
+ghost use mathlib.Core.Path.{_≡_};
+ghost use mathlib.Core.Bool.{cond};
+ghost use Prim.Native.Nat.{_+_, _<_, _≤_};
+ghost use lib.ListN.{length, drop};
+ghost use Rattle.std.specs.Options.{isSome};
+ghost use Rattle.std.specs.Slices.{found};
+ghost use Rattle.std.specs.Vec.{made};
+ghost use Rattle.plan.specs.Stacks.{first};
+ghost use Rattle.notation.specs.Cursors.{Onward};
+use crate::cursor::Cursor;
+use text::Problem;
+use text::is_blank;
+
+impl<'a> Cursor<'a> {
+    pub fn new(text: &'a [u8]) -> Cursor<'a>
+        ensures { λ r. ⌜ (now (r .text) ≡ now (text .entry)) × (r .place ≡ 0) ⌝ }
+    {
+        Cursor { text, place: 0 }
+    }
+
+    /// The place, counted from 1.
+    pub fn column(&self) -> usize
+        ensures { λ r. ⌜ r ≡ now (self .entry) .place + 1 ⌝ }
+    {
+        self.place + 1
+    }
+
+    /// The byte at the cursor; none at the end.
+    pub fn peek(&self) -> Option<u8>
+        ensures value { λ r. ⌜ r ≡ first (drop (now (self .entry) .place) (now (now (self .entry) .text))) ⌝ }
+        ensures within { λ r. ⌜ found r (λ _. now (self .entry) .place < length (now (now (self .entry) .text))) ⌝ }
+    {
+        if self.place >= self.text.len() {
+            return None;
+        }
+        Some(self.text[self.place])
+    }
+
+    /// Steps over a byte, if it is this one.
+    pub fn take(&mut self, byte: u8) -> bool
+        ensures onward { λ _. ⌜ Onward (now (self .entry)) (now (self .exit)) ⌝ }
+        ensures moved { λ r. ⌜ now (self .exit) .place ≡ cond r (now (self .entry) .place + 1) (now (self .entry) .place) ⌝ }
+    {
+        if self.place >= self.text.len() || self.text[self.place] != byte {
+            return false;
+        }
+        self.place += 1;
+        true
+    }
+
+    /// Steps over a byte that is due.
+    pub fn expect(&mut self, byte: u8, problem: Problem) -> Result<(), Problem>
+        ensures onward { λ _. ⌜ Onward (now (self .entry)) (now (self .exit)) ⌝ }
+    {
+        if self.take(byte) {
+            Ok(())
+        } else {
+            Err(problem)
+        }
+    }
+
+    /// Steps over blanks.
+    pub fn skip_blanks(&mut self)
+        ensures { λ _. ⌜ Onward (now (self .entry)) (now (self .exit)) ⌝ }
+    {
+        while self.place < self.text.len() && is_blank(self.text[self.place]) {
+            self.place += 1;
+        }
+    }
+
+    // Steps over a digit, and gives its value.
+    fn digit(&mut self) -> Option<u8>
+        ensures onward { λ _. ⌜ Onward (now (self .entry)) (now (self .exit)) ⌝ }
+        ensures moved { λ r. ⌜ now (self .exit) .place ≡ cond (isSome r) (now (self .entry) .place + 1) (now (self .entry) .place) ⌝ }
+        ensures small { λ r. ⌜ found r (λ d. d < 10) ⌝ }
+    {
+        if self.place >= self.text.len() || !self.text[self.place].is_ascii_digit() {
+            return None;
+        }
+        let digit = self.text[self.place] - b'0';
+        self.place += 1;
+        Some(digit)
+    }
+
+    /// A number of digits, at most so large; the problem else.
+    pub fn number(&mut self, most: u64, problem: Problem) -> Result<u64, Problem>
+        ensures onward { λ _. ⌜ Onward (now (self .entry)) (now (self .exit)) ⌝ }
+        ensures some { λ r. ⌜ made r (λ n. (n ≤ most) × (now (self .entry) .place < now (self .exit) .place)) ⌝ }
+    {
+        let start = self.place;
+        let mut value: u64 = 0;
+        while let Some(digit) = self.digit() {
+            value = value.saturating_mul(10).saturating_add(u64::from(digit));
+        }
+        if self.place == start {
+            return Err(Problem::ExpectedNumber);
+        }
+        if value > most {
+            self.place = start;
+            return Err(problem);
+        }
+        Ok(value)
+    }
+}

@@ -1,0 +1,3 @@
+pub mod Passed
+pub mod Agreeing
+pub mod Base

@@ -1,2 +1,3 @@
 pub mod Visiting
 pub mod Truth
+pub mod Cutting

@@ -8,6 +8,7 @@ use lib.Dec.{eqb, leb, ltb}
 use lib.ListN.{length, replicate}
 use Rattle.std.specs.Options.{isSome}
 use Rattle.std.specs.Vec.{listOf}
+use Rattle.std.specs.shelf.Lists.{All}
 use Rattle.std.proofs.shelf.Lists.{length-append}
 use Rattle.std.proofs.shelf.Ways.{tells}
 use Rattle.std.specs.declared.option.Option.{Option}
@@ -115,6 +116,61 @@ module _ (a : Answers) (partitions : ℕ) where
   -- the second visit changes nothing
   pub visited-again : (r : GlobalRequirements) (c : Cell) → let v = visited a r c partitions in settled a r c partitions ≡ (put v [], v .next)
   visited-again r c = let v = visited a r c partitions in again-steady v (v .above) (visited-steady r c)
+
+-- what holds of the limits that go above a node
+module _ (P : Cell → Type 0) (global : (s : ℕ) (f : Option ℕ) → P (new-global s f)) (local : (n : ℕ) → P (new-local n)) where
+  above-if : (b : Bool) (l : Cell) → P l → All P (listOf (only-if b l))
+  above-if true l h = (h, tt)
+  above-if false l h = tt
+
+  some-limit : (b : Bool) (r : GlobalRequirements) (n : ℕ) → P (limit-over b r n)
+  some-limit true r n = global (r .skip) (Some n)
+  some-limit false r n = local (n + r .skip)
+
+  skipped-above : (b : Bool) (r : GlobalRequirements) (c : Cell) → All P (listOf (skipped-by b r c .above))
+  skipped-above true r c = (global (r .skip) None, tt)
+  skipped-above false r c = tt
+
+  fetching-above : (x t y : Bool) (a : Answers) (r : GlobalRequirements) (c : Cell) (partitions n : ℕ) → All P (listOf (fetching-by x t y a r c partitions n .above))
+  fetching-above true t y a r c partitions n = above-if (ltb 0 (r .skip)) (new-global (r .skip) (Some n)) (global (r .skip) (Some n))
+  fetching-above false true y a r c partitions n = tt
+  fetching-above false false true a r c partitions n = above-if (ltb 0 (r .skip) && not (r .satisfied)) (new-global (r .skip) (Some n)) (global (r .skip) (Some n))
+  fetching-above false false false a r c partitions n = let x = ltb 0 (r .skip) || eqb partitions 1 in above-if (not (r .satisfied)) (limit-over x r n) (some-limit x r n)
+
+  visited-above-by : (a : Answers) (r : GlobalRequirements) (c : Cell) (partitions : ℕ) (f : Option ℕ) → All P (listOf (visited-by a r c partitions f .above))
+  visited-above-by a r c partitions None = skipped-above (ltb 0 (r .skip) && not (r .satisfied)) r c
+  visited-above-by a r c partitions (Some n) = fetching-above (combines-partitions (c .kind)) (passes-limits a (c .kind) (c .parameter)) (takes-fetch a (c .kind) (c .parameter)) a r c partitions n
+
+  pub visited-above : (a : Answers) (r : GlobalRequirements) (c : Cell) (partitions : ℕ) → All P (listOf (visited a r c partitions .above))
+  visited-above a r c partitions = let own = past-fetch r (c .fetch) in visited-above-by a own c partitions (own .fetch)
+
+-- a mark stands where it is taken
+abbrev pub mark-taken : Answers → Cell → Bool → Type 0
+mark-taken a c b = (not b || takes-mark a (c .kind) (c .parameter)) ≡ true
+
+-- what holds of the node itself
+module _ (a : Answers) (c : Cell) (Q : Cell → Type 0) (same : Q c) (other : (n : ℕ) (b : Bool) → takes-fetch a (c .kind) (c .parameter) ≡ true → (mark-taken a c (c .mark) → mark-taken a c b) → Q (with-fetch c n b)) where
+  mark-fits : (b o x : Bool) → (not x || b) ≡ true → (not (cond b o x) || b) ≡ true
+  mark-fits true true x h = refl
+  mark-fits true false x h = refl
+  mark-fits false o x h = h
+
+  skipped-node : (b : Bool) (r : GlobalRequirements) → Q (skipped-by b r c .node)
+  skipped-node true r = same
+  skipped-node false r = same
+
+  fetching-node : (x t y : Bool) → combines-partitions (c .kind) ≡ x → takes-fetch a (c .kind) (c .parameter) ≡ y → (r : GlobalRequirements) (partitions n : ℕ) → Q (fetching-by x t y a r c partitions n .node)
+  fetching-node true t y e1 e2 r partitions n = other (n + r .skip) (c .mark) (grind (arith, tells)) (λ h. h)
+  fetching-node false true y e1 e2 r partitions n = same
+  fetching-node false false true e1 e2 r partitions n = let b = takes-mark a (c .kind) (c .parameter) in other (n + r .skip) (cond b (r .«preserve_order») (c .mark)) e2 (mark-fits b (r .«preserve_order») (c .mark))
+  fetching-node false false false e1 e2 r partitions n = same
+
+  visited-node-by : (r : GlobalRequirements) (partitions : ℕ) (f : Option ℕ) → Q (visited-by a r c partitions f .node)
+  visited-node-by r partitions None = skipped-node (ltb 0 (r .skip) && not (r .satisfied)) r
+  visited-node-by r partitions (Some n) = fetching-node (combines-partitions (c .kind)) (passes-limits a (c .kind) (c .parameter)) (takes-fetch a (c .kind) (c .parameter)) refl refl r partitions n
+
+  pub visited-node : (r : GlobalRequirements) (partitions : ℕ) → Q (visited a r c partitions .node)
+  visited-node r partitions = let own = past-fetch r (c .fetch) in visited-node-by own partitions (own .fetch)
 
 module _ (a : Answers) (r : GlobalRequirements) (rs : List GlobalRequirements) (c : Cell) (cs : List Cell) where
   -- at a limit

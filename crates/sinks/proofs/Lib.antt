@@ -1,3 +1,4 @@
 pub mod Visiting
 pub mod Truth
 pub mod Cutting
+pub mod Sinking

@@ -3,5 +3,8 @@
 mod laws;
 mod requirements;
 
+pub use laws::second_visit_changes_nothing;
+pub use laws::sink_at_most_doubles;
+pub use laws::sink_keeps_rows;
 pub use requirements::GlobalRequirements;
 pub use requirements::Visited;

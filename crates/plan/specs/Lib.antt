@@ -3,3 +3,4 @@ pub mod Cells
 pub mod Kinds
 pub mod Refusals
 pub mod Stacks
+pub mod Tables

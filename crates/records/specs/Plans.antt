@@ -55,12 +55,3 @@ abbrev pub unpacking : List ℕ → ℕ → Result (List Cell) Fault
 unpacking bytes room =
     cond (not (eqb (length bytes % record-size) 0)) (refused-at Packed 0)
     (then (all-pass Packed sound 0 (plan-values bytes)) (λ _. cond (ltb room (length bytes / record-size)) (refused-at Room 0) (Ok (map cell-of (plan-values bytes)))))
-
--- how many were granted
-abbrev pub counted : {A : Type 0} → Result (List A) Fault → Result ℕ Fault
-counted r = then r (λ xs. Ok (length xs))
-
--- what a table holds after: what was granted with blanks behind it, or what it held before
-abbrev pub laid : {A : Type 0} → A → Result (List A) Fault → List A → List A
-laid blank (Ok xs) table = xs ++ replicate (length table - length xs) blank
-laid blank (Err e) table = table

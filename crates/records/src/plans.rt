@@ -10,7 +10,8 @@ ghost use Rattle.plan.specs.declared.refusals.Refusal.the-variants.{Packed, Fit
 ghost use Rattle.plan.specs.Cells.{blank};
 ghost use Rattle.records.specs.Fields.{joined};
 ghost use Rattle.records.specs.Record.{record-size, octets, cell-of, sound};
-ghost use Rattle.records.specs.Plans.{packed-plan, plan-values, fits, in-range, all-pass, packing, unpacking, counted, laid};
+ghost use Rattle.records.specs.Plans.{packed-plan, plan-values, fits, in-range, all-pass, packing, unpacking};
+ghost use Rattle.plan.specs.Tables.{counted, laid};
 use crate::layout::RECORD;
 use crate::layout::cell_of;
 use crate::layout::is_sound;

@@ -10,7 +10,8 @@ use Rattle.std.proofs.shelf.Lists.{take-at, drop-replicate}
 use Rattle.plan.specs.declared.refusals.Fault.{Fault}
 use Rattle.plan.specs.declared.refusals.Refusal.the-variants.{Fit, Fields}
 use Rattle.records.specs.Record.{record-size}
-use Rattle.records.specs.Plans.{packed-plan, fits, in-range, all-pass, packing, unpacking, counted, laid}
+use Rattle.records.specs.Plans.{packed-plan, fits, in-range, all-pass, packing, unpacking}
+use Rattle.plan.specs.Tables.{counted, laid}
 use Rattle.records.proofs.Chunks.{length-packed}
 use Rattle.records.proofs.Undone.{plan-forth}
 use Rattle.records.proofs.plans.pack.Needs as need

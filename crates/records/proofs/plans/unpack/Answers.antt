@@ -14,7 +14,8 @@ use Rattle.plan.specs.declared.refusals.Fault.{Fault}
 use Rattle.plan.specs.declared.refusals.Refusal.the-variants.{Packed}
 use Rattle.plan.specs.Cells.{blank}
 use Rattle.records.specs.Record.{record-size, cell-of, sound}
-use Rattle.records.specs.Plans.{plan-values, all-pass, packing, unpacking, counted, laid}
+use Rattle.records.specs.Plans.{plan-values, all-pass, packing, unpacking}
+use Rattle.plan.specs.Tables.{counted, laid}
 use Rattle.records.proofs.Chunks.{length-values}
 use Rattle.records.proofs.Undone.{plan-back}
 use Rattle.records.proofs.plans.unpack.Needs as need

@@ -1,0 +1,5 @@
+pub mod Visiting
+pub mod Truth
+pub mod Cutting
+pub mod Sinking
+pub mod Settling

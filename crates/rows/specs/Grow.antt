@@ -57,7 +57,7 @@ no-fewer GreaterEqual = true
 abbrev pub lets-through : Answers → ℕ → ℕ → Bool
 lets-through a kind parameter = passes-limits a kind parameter && no-fewer (effect-of a kind parameter)
 
--- which line holds at a node: the first that matches counts
+-- what the walk does at a node: the first clause that matches counts
 abbrev pub turn-by : (ended forks finds window applies through : Bool) → Turn
 turn-by true forks finds window applies through = Keep
 turn-by false true finds window applies through = Reset
@@ -67,7 +67,8 @@ turn-by false false false false true through = ApplyHere
 turn-by false false false false false true = Keep
 turn-by false false false false false false = Reset
 
--- the walk has ended; two or more children; finding at a limit or merge; a window; applying at a sort or merge; what lets limits through
+-- by whether the walk has ended, the node has two or more children, it is a limit or merge while finding, a window, a sort or merge while applying,
+-- and whether it lets limits through
 abbrev pub turn : Answers → TraverseState → Cell → Turn
 turn a s c =
     turn-by (s .ended) (leb 2 (c .children)) (finds (s .phase) (c .kind)) (eqb (c .kind) bounded-window-agg) (applies (s .phase) (c .kind)) (lets-through a (c .kind) (c .parameter))

@@ -1,7 +1,6 @@
 -- Each rule keeps the rows of every accepted plan, whatever its operators mean and store, and keeps it accepted. Assumes nothing.
 use mathlib.Core.Path.{_≡_}
 use mathlib.Core.List.{List}
-use Prim.Native.Nat.{ℕ}
 use lib.ListN.{length}
 use Rattle.std.specs.declared.result.Result.the-variants.{Ok}
 use Rattle.plan.specs.declared.cells.Cell.{Cell}

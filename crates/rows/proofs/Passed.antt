@@ -141,7 +141,7 @@ record Follows (cs : List Cell) (P : Type 0) (s t u : Option Cell → Cell → B
   so : Each-passes s None cs → Each-passes t None cs → Each-passes u None cs → P
 
 module _ (a : Answers) (cs : List Cell) where
-  -- the chain, whichever the checks of single cells are
+  -- the chain, whichever the checks of single cells are: they have no names outside their crate, so `search` finds them
   passed-by : (P : Type 0) (s t u : _) → Follows cs P (passes-check a s) (passes-check a t) (passes-check a u)
       → Grants (isOk (then (tree-of cs) (λ _. then (singly a s cs) (λ _. then (singly a t cs) (λ _. then (counted-from a 0 cs) (λ _. then (singly a u cs) (λ _. Ok (root-partitions a cs)))))))) (Trees 1 cs × Counted a cs × P)
   passed-by P s t u f =

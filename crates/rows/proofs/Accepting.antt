@@ -1,27 +1,25 @@
 -- Hint and grow keep a plan accepted, if no sum is too large. Assumes nothing.
 use mathlib.Core.Path.{_≡_, refl, sym, ap, subst, _∙_}
-use mathlib.Core.Bool.{Bool, true, false, cond, _&&_, _||_, not}
+use mathlib.Core.Bool.{Bool, true, false, cond, _&&_, _||_}
 use mathlib.Core.List.{List, [], _∷_}
 use Prim.Native.Nat.{ℕ, _+_, _≤_, min}
 use native.Mathlib.Omega.{arith}
-use lib.Dec.{eqb, leb, ltb}
+use lib.Dec.{eqb, leb}
 use lib.ListN.{length}
-use Rattle.std.specs.shelf.Lists.{All, Each}
-use Rattle.std.proofs.shelf.Tests.{and-parts, and-from, false≢true, ltb-false, le-leb}
+use Rattle.std.specs.shelf.Lists.{Each}
+use Rattle.std.proofs.shelf.Tests.{and-parts, ltb-false, le-leb}
 use Rattle.std.proofs.shelf.Ways.{tells}
 use Rattle.std.specs.declared.option.Option.{Option}
 use Rattle.std.specs.declared.option.Option.the-variants.{Some, None}
 use Rattle.std.specs.declared.result.Result.the-variants.{Ok}
 use Rattle.plan.specs.declared.cells.Cell.{Cell}
 use Rattle.plan.specs.declared.refusals.Refusal.the-variants.{Sum}
-use Rattle.plan.specs.Kinds.{is-limit, sort-preserving-merge, sort, aggregate}
+use Rattle.plan.specs.Kinds.{is-limit, sort-preserving-merge, sort}
 use Rattle.plan.specs.Numbers.{max-number}
 use Rattle.operators.specs.Answers.{Answers}
-use Rattle.operators.specs.Questions.{takes-fetch}
-use Rattle.checks.specs.Cells.{small, small-cell, placed-cell, taken-cell, fields-cell, need-of, limit-bears, aggregate-bears, borne-out, hint-cell}
+use Rattle.checks.specs.Cells.{fields-cell, need-of, limit-bears, aggregate-bears, borne-out, hint-cell}
 use Rattle.checks.specs.Accepts.{Accepted}
 use Rattle.rows.specs.declared.growing.Phase.{Phase}
-use Rattle.rows.specs.declared.growing.Phase.the-variants.{FindOrGrow, Apply}
 use Rattle.rows.specs.declared.growing.TraverseState.{TraverseState}
 use Rattle.rows.specs.declared.growing.Turn.{Turn}
 use Rattle.rows.specs.declared.growing.Turn.the-variants.{Keep, Reset, Find, Grow}
@@ -29,9 +27,9 @@ use Rattle.rows.specs.declared.growing.Turn.the-variants.{Apply as ApplyHere}
 use Rattle.rows.specs.declared.hinting.Handed.{Handed}
 use Rattle.rows.specs.Sums.{too-large}
 use Rattle.rows.specs.Grow.{grow-first, applying, applies, turn-by, turn, grow-next, smaller-fetch, with-fetch, applied, grown-cell-by, grown-cell, grown, grown-plan, apply-sum, grow-sum-by, grow-sum, grow-sums-from, grow-sums}
-use Rattle.rows.specs.Hint.{takes-hint, with-hint, hinted-cell, hint-sum-by, hint-sum, handed-on, hint-next-by, hint-next, hinted, hinted-plan, hint-sums-from, hint-sums}
+use Rattle.rows.specs.Hint.{takes-hint, with-hint, hinted-cell, hint-sum, handed-on, hint-next-by, hint-next, hinted, hinted-plan, hint-sums-from, hint-sums}
 use Rattle.rows.specs.Laws.{Still-accepted}
-use Rattle.rows.proofs.Passed.{refused-not, Fields, Hints, Passed, passed, accepted}
+use Rattle.rows.proofs.Passed.{refused-not, Fields, Hints, passed, accepted}
 use Rattle.rows.proofs.Alike.{Alike, length-alike, trees-alike, fit-alike, counted-alike, root-alike}
 use Rattle.rows.proofs.HintKeeps.{fields-placed, hinted-hints, hinted-alike}
 

@@ -1,9 +1,8 @@
 -- Cells of the same kinds, child counts and parameters have the same trees, fits, facts and counts. Assumes nothing.
 use mathlib.Core.Path.{_≡_, refl, sym, ap, subst, _∙_}
-use mathlib.Core.Bool.{Bool, true, false}
 use mathlib.Core.List.{List, [], _∷_}
 use Prim.Native.Nat.{ℕ, suc, _+_, _-_}
-use lib.ListN.{length, take, drop}
+use lib.ListN.{length, drop}
 use Rattle.std.specs.shelf.Lists.{Each}
 use Rattle.plan.specs.declared.cells.Cell.{Cell}
 use Rattle.operators.specs.Answers.{Answers}

@@ -1,11 +1,11 @@
 -- Grow keeps the rows. Assumes nothing.
 use mathlib.Core.Path.{_≡_, refl, sym, ap, subst, _∙_}
-use mathlib.Core.Bool.{Bool, true, false, cond, _&&_, _||_, not}
+use mathlib.Core.Bool.{Bool, true, false, cond, _||_}
 use mathlib.Core.List.{List, [], _∷_, map}
-use mathlib.Core.Logic.{_⊎_, inl, inr}
-use Prim.Native.Nat.{ℕ, zero, suc, _+_, _-_, _≤_, _<_, min, max}
+use mathlib.Core.Logic.{_⊎_, inl}
+use Prim.Native.Nat.{ℕ, _+_, _≤_, _<_, min, max}
 use native.Mathlib.Omega.{arith}
-use lib.Dec.{eqb, leb, ltb}
+use lib.Dec.{eqb, leb}
 use lib.ListN.{length, take, drop}
 use Rattle.std.proofs.shelf.Lists.{take-take}
 use Rattle.std.proofs.shelf.Tests.{and-parts, or-parts, false≢true, eqb-true}
@@ -20,16 +20,16 @@ use Rattle.operators.specs.Answers.{Answers}
 use Rattle.operators.specs.Questions.{fits-of, passes-limits}
 use Rattle.operators.specs.Windows.{all-reach, following-of, relative-of, reach-of}
 use Rattle.operators.specs.Rows.{Row, Partitions, Meaning, cut, concat, made-by, made, node-rows, rows}
-use Rattle.operators.specs.Rules.{Agree, Rules, Rules-at, each}
+use Rattle.operators.specs.Rules.{Agree, Rules, each}
 use Rattle.checks.specs.Cells.{fit-cell}
-use Rattle.checks.specs.Windows.{looks-ahead, window-refused, below-after}
+use Rattle.checks.specs.Windows.{window-refused, below-after}
 use Rattle.rows.specs.declared.growing.Phase.{Phase}
 use Rattle.rows.specs.declared.growing.Phase.the-variants.{FindOrGrow, Apply}
 use Rattle.rows.specs.declared.growing.TraverseState.{TraverseState}
 use Rattle.rows.specs.declared.growing.Turn.{Turn}
 use Rattle.rows.specs.declared.growing.Turn.the-variants.{Keep, Reset, Find, Grow}
 use Rattle.rows.specs.declared.growing.Turn.the-variants.{Apply as ApplyHere}
-use Rattle.rows.specs.Grow.{grow-first, finding, finds, applies, lets-through, turn-by, turn, reset-limit, limit-found, past-window, past-apply, grow-next-by, grow-next, smaller-fetch, with-fetch, applied, grown-cell-by, grown-cell, grown, grown-plan}
+use Rattle.rows.specs.Grow.{grow-first, finding, finds, applies, lets-through, turn-by, turn, reset-limit, limit-found, past-window, past-apply, grow-next-by, grow-next, smaller-fetch, with-fetch, applied, grown-cell-by, grown, grown-plan}
 use Rattle.rows.proofs.Agreeing.{map-map, map-same, take-twice, agree-count, agree-join, agree-less, agree-each, agree-rows, agree-cut, agree-limit, concat-one}
 use Rattle.rows.proofs.Base.{kind-one, through-limit, through-some, made-limit, made-joined, made-meant}
 use Rattle.rows.proofs.Passed.{Fit, Windows-pass}

@@ -2,10 +2,9 @@
 use mathlib.Core.Path.{_≡_, refl, sym, ap, subst, _∙_}
 use mathlib.Core.Bool.{Bool, true, false, cond, _&&_, _||_, not}
 use mathlib.Core.List.{List, [], _∷_, map}
-use mathlib.Core.Logic.{_⊎_, inl, inr}
-use Prim.Native.Nat.{ℕ, zero, suc, _+_, _-_, _≤_, _<_}
+use Prim.Native.Nat.{ℕ, _+_, _-_, _≤_, _<_}
 use native.Mathlib.Omega.{arith}
-use lib.Dec.{eqb, leb}
+use lib.Dec.{eqb}
 use lib.ListN.{length, take, drop}
 use Rattle.std.specs.Options.{isSome}
 use Rattle.std.specs.shelf.Lists.{All, Each}
@@ -18,10 +17,10 @@ use Rattle.plan.specs.Kinds.{is-limit, coalesce-partitions, aggregate}
 use Rattle.operators.specs.Answers.{Answers}
 use Rattle.operators.specs.Questions.{fits-of, takes-fetch}
 use Rattle.operators.specs.Rows.{Row, Partitions, Meaning, cut, made, node-rows, rows}
-use Rattle.operators.specs.Rules.{Rules, Rules-at, keys, Begins}
+use Rattle.operators.specs.Rules.{Rules, keys, Begins}
 use Rattle.checks.specs.Cells.{fit-cell, fields-cell, need-of, limit-bears, aggregate-bears, borne-out, hint-cell}
 use Rattle.rows.specs.declared.hinting.Handed.{Handed}
-use Rattle.rows.specs.Hint.{shares-group, takes-hint, with-hint, hinted-cell, hint-sum-by, hint-sum, handed-on, hint-next-by, hint-next, hinted, hinted-plan}
+use Rattle.rows.specs.Hint.{takes-hint, with-hint, hinted-cell, hint-sum-by, handed-on, hint-next-by, hint-next, hinted, hinted-plan}
 use Rattle.rows.proofs.Passed.{Trees, Fit, Fields, Hints}
 use Rattle.rows.proofs.Agreeing.{map-map, map-same, map-none, concat-one}
 use Rattle.rows.proofs.Base.{fetch-taken, fields-fetch, kind-one, limit-kind, made-limit, made-meant, rows-count}

@@ -1,0 +1,7 @@
+// The rules that move limits through plans.
+mod limit_pushdown_past_window;
+mod limited_distinct_aggregation;
+mod rules;
+mod sums;
+
+pub use rules::Rule;

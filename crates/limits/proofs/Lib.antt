@@ -1,1 +1,2 @@
+mod Spreads
 mod Writes

@@ -1,6 +1,8 @@
 // The rules that move limits through plans.
+mod limit_pushdown;
 mod limit_pushdown_past_window;
 mod limited_distinct_aggregation;
+mod pending;
 mod rules;
 mod sums;
 

@@ -1,0 +1,152 @@
+-- If no sum is too large, no number of the new cells is. Assumes nothing.
+use mathlib.Core.Path.{_≡_, refl, sym, ap, subst, _∙_}
+use mathlib.Core.Bool.{Bool, true, false, cond, _&&_, _||_, not}
+use mathlib.Core.List.{List, [], _∷_, _++_}
+use Prim.Native.Nat.{ℕ, _+_, _-_, _≤_, min}
+use native.Mathlib.Omega.{arith}
+use lib.Dec.{eqb, leb, ltb}
+use lib.ListN.{replicate}
+use Rattle.std.specs.Options.{isSome}
+use Rattle.std.specs.Vec.{listOf}
+use Rattle.std.specs.shelf.Lists.{All}
+use Rattle.std.proofs.shelf.Elements.{all-append}
+use Rattle.std.proofs.shelf.Ways.{tells}
+use Rattle.std.specs.declared.option.Option.{Option}
+use Rattle.std.specs.declared.option.Option.the-variants.{Some, None}
+use Rattle.std.specs.declared.result.Result.the-variants.{Ok}
+use Rattle.plan.specs.declared.cells.Cell.{Cell}
+use Rattle.plan.specs.declared.refusals.Refusal.the-variants.{Sum}
+use Rattle.plan.specs.Kinds.{is-limit}
+use Rattle.plan.specs.Numbers.{max-number}
+use Rattle.operators.specs.Answers.{Answers}
+use Rattle.operators.specs.Questions.{passes-limits, takes-fetch, takes-mark}
+use Rattle.checks.specs.declared.facts.Fact.{Fact}
+use Rattle.checks.specs.Cells.{small, small-cell}
+use Rattle.checks.specs.Facts.{head-fact, fact-of, facts}
+use Rattle.rows.proofs.Passed.{refused-not}
+use Rattle.rows.proofs.Base.{fetch-taken}
+use Rattle.sinks.specs.declared.requirements.GlobalRequirements.{GlobalRequirements}
+use Rattle.sinks.specs.declared.requirements.Visited.{Visited}
+use Rattle.sinks.specs.Sink.{at-first, combined-fetch, past-limit, past-fetch, new-global, new-local, only-if, with-fetch, onward, satisfied-to, skipped-by, skipped, limit-over, fetching-by, combines-partitions, visited-by, visited, step-by, step, sunk, total-of, sum-by, sunk-sums}
+use Rattle.sinks.proofs.Visiting.{put, own-skip, own-fetch, none-both, visited-again, sunk-limit, sunk-node}
+use Rattle.sinks.proofs.Sinking.{all-copies}
+
+abbrev Small-cell : Cell → Type 0
+Small-cell c = small-cell c ≡ true
+
+abbrev Small : GlobalRequirements → Type 0
+Small r = (r .skip ≤ max-number) × (small (r .fetch) ≡ true)
+
+-- what a visit leaves is small
+abbrev Small-visit : Visited → Type 0
+Small-visit v = All Small-cell (listOf (v .above)) × Small-cell (v .node) × Small (v .next)
+
+combined-small : (s : ℕ) (f g : Option ℕ) → small f ≡ true → small g ≡ true → small (combined-fetch s f g) ≡ true
+combined-small s None None x y = refl
+combined-small s None (Some g) x y = grind (arith, tells)
+combined-small s (Some f) None x y = x
+combined-small s (Some f) (Some g) x y = grind (arith, tells)
+
+fetch-small : (c : Cell) → Small-cell c → small (c .fetch) ≡ true
+fetch-small c h = grind (arith, tells)
+
+limit-small : (r : GlobalRequirements) (c : Cell) (f : Fact) → Small r → Small-cell c → r .skip + c .skip ≤ max-number → Small (past-limit r c f)
+limit-small r c f k s e = (e, combined-small (r .skip) (r .fetch) (c .fetch) (k .1) (fetch-small c s))
+
+own-small : (r : GlobalRequirements) (f : Option ℕ) → Small r → small f ≡ true → Small (past-fetch r f)
+own-small r None k e = k
+own-small r (Some f) k e = (subst (λ n. n ≤ max-number) (sym (own-skip r (Some f))) (k .0), combined-small (r .skip) (r .fetch) (Some f) (k .1) e)
+
+onward-small : (r : GlobalRequirements) → Small r → Small (onward r)
+onward-small r k = (go (r .satisfied), k .1)
+  where
+    go : (b : Bool) → cond b 0 (r .skip) ≤ max-number
+    go true = omega arith
+    go false = k .0
+
+module _ (a : Answers) (r : GlobalRequirements) (c : Cell) (k : Small r) (s : Small-cell c) where
+  global-small : (f : Option ℕ) → small f ≡ true → Small-cell (new-global (r .skip) f)
+  global-small f e = let low = k .0 in grind (arith, tells)
+
+  above-small : (b : Bool) (l : Cell) → Small-cell l → All Small-cell (listOf (only-if b l))
+  above-small true l h = (h, tt)
+  above-small false l h = tt
+
+  other-small : (n : ℕ) (b : Bool) → n ≤ max-number → Small-cell (with-fetch c n b)
+  other-small n b e = grind (arith, tells)
+
+  over-small : (b : Bool) (n : ℕ) → n + r .skip ≤ max-number → Small-cell (limit-over b r n)
+  over-small true n e = global-small (Some n) (grind (arith, tells))
+  over-small false n e = grind (arith, tells)
+
+  skipped-small : (b : Bool) → Small-visit (skipped-by b r c)
+  skipped-small true = ((global-small None refl, tt), s, (omega arith, refl))
+  skipped-small false = (tt, s, onward-small r k)
+
+  fetching-small : (x t y : Bool) (P n : ℕ) → n + r .skip ≤ max-number → Small-visit (fetching-by x t y a r c P n)
+  fetching-small true t y P n e = (above-small (ltb 0 (r .skip)) (new-global (r .skip) (Some n)) (over-small true n e), other-small (n + r .skip) (c .mark) e, (omega arith, grind (arith, tells)))
+  fetching-small false true y P n e = (tt, s, onward-small r k)
+  fetching-small false false true P n e =
+      let mark = cond (takes-mark a (c .kind) (c .parameter)) (r .«preserve_order») (c .mark) in
+      (above-small (ltb 0 (r .skip) && not (r .satisfied)) (new-global (r .skip) (Some n)) (over-small true n e), other-small (n + r .skip) mark e, (omega arith, refl))
+  fetching-small false false false P n e =
+      let x = ltb 0 (r .skip) || eqb P 1 in
+      (above-small (not (r .satisfied)) (limit-over x r n) (over-small x n e), s, (omega arith, refl))
+
+  visited-by-small : (P : ℕ) (f : Option ℕ) → total-of r f ≤ max-number → Small-visit (visited-by a r c P f)
+  visited-by-small P None e = skipped-small (ltb 0 (r .skip) && not (r .satisfied))
+  visited-by-small P (Some n) e = fetching-small (combines-partitions (c .kind)) (passes-limits a (c .kind) (c .parameter)) (takes-fetch a (c .kind) (c .parameter)) P n e
+
+visited-small : (a : Answers) (r : GlobalRequirements) (c : Cell) (P : ℕ) → Small r → Small-cell c → sum-by false r c ≤ max-number → Small-visit (visited a r c P)
+visited-small a r c P k s e =
+    let own = past-fetch r (c .fetch) in
+    visited-by-small a own c (own-small r (c .fetch) k (fetch-small c s)) s P (own .fetch) e
+
+module _ (a : Answers) where
+  -- what goes on down
+  next-limit : (r : GlobalRequirements) (c : Cell) (fs : List Fact) → is-limit (c .kind) ≡ true → step a r c fs .1 ≡ past-limit r c (head-fact fs)
+  next-limit r c fs e = ap (λ b. step-by b a r c fs .1) e
+
+  next-node : (r : GlobalRequirements) (c : Cell) (fs : List Fact) → is-limit (c .kind) ≡ false → step a r c fs .1 ≡ visited a r c (fact-of a c fs .partitions) .next
+  next-node r c fs e = ap (λ b. step-by b a r c fs .1) e ∙ ap (λ s. s .1) (visited-again a (fact-of a c fs .partitions) r c)
+
+  node-small : (r : GlobalRequirements) (rs : List GlobalRequirements) (at : ℕ) (c : Cell) (cs : List Cell) → Small-cell c → sunk-sums a (r ∷ rs) at (c ∷ cs) ≡ Ok tt → Small r → All Small rs → ((qs : List GlobalRequirements) → sunk-sums a qs (at + 1) cs ≡ Ok tt → All Small qs → All Small-cell (sunk a qs cs)) → All Small-cell (sunk a (r ∷ rs) (c ∷ cs))
+  unfolding sunk-sums
+  node-small r rs at c cs s e k ks ih = go (is-limit (c .kind)) refl
+    where
+      n : ℕ
+      n = c .children
+
+      next : GlobalRequirements
+      next = step a r c (facts a cs) .1
+
+      parts : (ltb max-number (sum-by (is-limit (c .kind)) r c) ≡ false) × (sunk-sums a (replicate n next ++ rs) (at + 1) cs ≡ Ok tt)
+      parts = refused-not (ltb max-number (sum-by (is-limit (c .kind)) r c)) Sum at (sunk-sums a (replicate n next ++ rs) (at + 1) cs) tt e
+
+      below : (q : GlobalRequirements) → next ≡ q → Small q → All Small-cell (sunk a (replicate n q ++ rs) cs)
+      below q is small = ih (replicate n q ++ rs) (subst (λ x. sunk-sums a (replicate n x ++ rs) (at + 1) cs ≡ Ok tt) is (parts .1)) (all-copies Small n q rs small ks)
+
+      go : (b : Bool) → is-limit (c .kind) ≡ b → All Small-cell (sunk a (r ∷ rs) (c ∷ cs))
+      go true eb =
+          let sum : ltb max-number (r .skip + c .skip) ≡ false = subst (λ b. ltb max-number (sum-by b r c) ≡ false) eb (parts .0) in
+          let child = head-fact (facts a cs) in
+          subst (All Small-cell) (sym (sunk-limit a r rs c cs eb)) (below (past-limit r c child) (next-limit r c (facts a cs) eb) (limit-small r c child k s (grind (arith, tells))))
+      go false eb =
+          let P = fact-of a c (facts a cs) .partitions in
+          let v = visited a r c P in
+          let sum : ltb max-number (sum-by false r c) ≡ false = subst (λ b. ltb max-number (sum-by b r c) ≡ false) eb (parts .0) in
+          let here = visited-small a r c P k s (not-above (sum-by false r c) sum) in
+          subst (All Small-cell) (sym (sunk-node a r rs c cs eb))
+          (all-append Small-cell (listOf (v .above)) (v .node ∷ sunk a (replicate n (v .next) ++ rs) cs) (here .0) (here .1, below (v .next) (next-node r c (facts a cs) eb) (here .2)))
+        where
+          not-above : (m : ℕ) → ltb max-number m ≡ false → m ≤ max-number
+          not-above m e = grind (arith, tells)
+
+  sunk-small-by : (cs : List Cell) (rs : List GlobalRequirements) (at : ℕ) → All Small-cell cs → sunk-sums a rs at cs ≡ Ok tt → All Small rs → All Small-cell (sunk a rs cs)
+  unfolding sunk
+  sunk-small-by [] rs at h e k = tt
+  sunk-small-by (c ∷ cs) [] at h e k = tt
+  sunk-small-by (c ∷ cs) (r ∷ rs) at h e k = node-small r rs at c cs (h .0) e (k .0) (k .1) (λ qs e2 k2. sunk-small-by cs qs (at + 1) (h .1) e2 k2)
+
+  pub sunk-small : (cs : List Cell) (at : ℕ) → All Small-cell cs → sunk-sums a (at-first ∷ []) at cs ≡ Ok tt → All Small-cell (sunk a (at-first ∷ []) cs)
+  sunk-small cs at h e = sunk-small-by cs (at-first ∷ []) at h e ((omega arith, refl), tt)

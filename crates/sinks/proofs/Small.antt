@@ -10,6 +10,7 @@ use Rattle.std.specs.Options.{isSome}
 use Rattle.std.specs.Vec.{listOf}
 use Rattle.std.specs.shelf.Lists.{All}
 use Rattle.std.proofs.shelf.Elements.{all-append}
+use Rattle.std.proofs.shelf.Tests.{false≢true}
 use Rattle.std.proofs.shelf.Ways.{tells}
 use Rattle.std.specs.declared.option.Option.{Option}
 use Rattle.std.specs.declared.option.Option.the-variants.{Some, None}
@@ -21,10 +22,9 @@ use Rattle.plan.specs.Numbers.{max-number}
 use Rattle.operators.specs.Answers.{Answers}
 use Rattle.operators.specs.Questions.{passes-limits, takes-fetch, takes-mark}
 use Rattle.checks.specs.declared.facts.Fact.{Fact}
-use Rattle.checks.specs.Cells.{small, small-cell}
+use Rattle.checks.specs.Cells.{small, small-cell, taken-cell}
 use Rattle.checks.specs.Facts.{head-fact, fact-of, facts}
 use Rattle.rows.proofs.Passed.{refused-not}
-use Rattle.rows.proofs.Base.{fetch-taken}
 use Rattle.sinks.specs.declared.requirements.GlobalRequirements.{GlobalRequirements}
 use Rattle.sinks.specs.declared.requirements.Visited.{Visited}
 use Rattle.sinks.specs.Sink.{at-first, combined-fetch, past-limit, past-fetch, new-global, new-local, only-if, with-fetch, onward, satisfied-to, skipped-by, skipped, limit-over, fetching-by, combines-partitions, visited-by, visited, step-by, step, sunk, total-of, sum-by, sunk-sums}
@@ -150,3 +150,36 @@ module _ (a : Answers) where
 
   pub sunk-small : (cs : List Cell) (at : ℕ) → All Small-cell cs → sunk-sums a (at-first ∷ []) at cs ≡ Ok tt → All Small-cell (sunk a (at-first ∷ []) cs)
   sunk-small cs at h e = sunk-small-by cs (at-first ∷ []) at h e ((omega arith, refl), tt)
+
+-- a second visit forms no larger sum than the first
+module _ (a : Answers) (r : GlobalRequirements) (c : Cell) (P : ℕ) (taken : taken-cell a c ≡ true) where
+  abbrev own : GlobalRequirements
+  own = past-fetch r (c .fetch)
+
+  abbrev Less : Visited → ℕ → Type 0
+  Less v sum = sum-by false (v .next) (v .node) ≤ sum
+
+  -- with no fetch of its own the node forms no sum where none is pending
+  fetchless-sum : (q : GlobalRequirements) (sum : ℕ) → q .fetch ≡ None → c .fetch ≡ None → sum-by false q c ≤ sum
+  fetchless-sum q sum eq e = subst (λ f. (let next = past-fetch q f in total-of next (next .fetch)) ≤ sum) (sym e) (subst (λ f. total-of q f ≤ sum) (sym eq) (omega arith))
+
+  fetchless : (f : Option ℕ) → c .fetch ≡ f → takes-fetch a (c .kind) (c .parameter) ≡ false → f ≡ None
+  fetchless None e h = refl
+  fetchless (Some n) e h = absurd (let some : isSome (c .fetch) ≡ true = ap isSome e in let z : _≡_ {A = ℕ} 0 1 = grind (arith, tells) in omega arith)
+
+  skipped-less : (b : Bool) (sum : ℕ) → c .fetch ≡ None → isSome (skipped-by b own c .above) ≡ true → Less (skipped-by b own c) sum
+  skipped-less true sum e some = fetchless-sum (satisfied-to own None) sum refl e
+  skipped-less false sum e some = absurd (false≢true some)
+
+  fetching-less : (x t y : Bool) (n : ℕ) → takes-fetch a (c .kind) (c .parameter) ≡ y → isSome (fetching-by x t y a own c P n .above) ≡ true → Less (fetching-by x t y a own c P n) (n + own .skip)
+  fetching-less true t y n e some = let total = n + own .skip in let l : min total (total - 0) + (0 + 0) ≤ total = omega arith in l
+  fetching-less false true y n e some = absurd (false≢true some)
+  fetching-less false false true n e some = let total = n + own .skip in let l : (total - 0) + (0 + 0) ≤ total = omega arith in l
+  fetching-less false false false n e some = fetchless-sum (satisfied-to own None) (n + own .skip) refl (fetchless (c .fetch) refl e)
+
+  pub second-sum : isSome (visited a r c P .above) ≡ true → Less (visited a r c P) (sum-by false r c)
+  second-sum = go (own .fetch) refl
+    where
+      go : (f : Option ℕ) → past-fetch r (c .fetch) .fetch ≡ f → isSome (visited-by a own c P f .above) ≡ true → Less (visited-by a own c P f) (total-of own f)
+      go None e = skipped-less (ltb 0 (own .skip) && not (own .satisfied)) 0 (none-both (r .skip) (r .fetch) (c .fetch) (sym (own-fetch r (c .fetch)) ∙ e) .1)
+      go (Some n) e = fetching-less (combines-partitions (c .kind)) (passes-limits a (c .kind) (c .parameter)) (takes-fetch a (c .kind) (c .parameter)) n refl

@@ -5,24 +5,21 @@ use mathlib.Core.List.{List, [], _∷_, map}
 use Prim.Native.Nat.{ℕ, zero, suc, _+_, _-_, _≤_, _<_}
 use native.Mathlib.Omega.{arith}
 use lib.Dec.{eqb, leb, ltb}
-use lib.ListN.{length, take, drop}
+use lib.ListN.{length, drop}
 use Rattle.std.specs.Options.{isSome}
-use Rattle.std.specs.shelf.Lists.{All}
 use Rattle.std.proofs.shelf.Lists.{length-drop}
-use Rattle.std.proofs.shelf.Tests.{and-parts, and-from, false≢true, cases-bool}
+use Rattle.std.proofs.shelf.Tests.{false≢true}
 use Rattle.std.proofs.shelf.Ways.{tells}
-use Rattle.std.specs.declared.option.Option.{Option}
-use Rattle.std.specs.declared.option.Option.the-variants.{Some, None}
 use Rattle.plan.specs.declared.cells.Cell.{Cell}
-use Rattle.plan.specs.Kinds.{is-limit, coalesce-partitions, sort-preserving-merge, first-operator}
+use Rattle.plan.specs.Kinds.{is-limit, coalesce-partitions, first-operator}
 use Rattle.operators.specs.declared.answers.LimitsPass.{LimitsPass}
 use Rattle.operators.specs.declared.answers.LimitsPass.the-variants.{No, RowForRow}
 use Rattle.operators.specs.Answers.{Answers}
 use Rattle.operators.specs.Questions.{fits-of, passes, passes-limits, takes-fetch}
-use Rattle.operators.specs.Rows.{Row, Partitions, Meaning, cut, concat, made-by, made, node-rows, rows}
-use Rattle.operators.specs.Rules.{Rules, Passing, row-for-row}
-use Rattle.checks.specs.Cells.{small-cell, placed-cell, taken-cell, fields-cell}
-use Rattle.rows.proofs.Passed.{Trees, Fields}
+use Rattle.operators.specs.Rows.{Partitions, Meaning, concat, made-by, made, rows}
+use Rattle.operators.specs.Rules.{Rules, Passing}
+use Rattle.checks.specs.Cells.{fields-cell}
+use Rattle.rows.proofs.Passed.{Trees}
 
 -- a fetch stands where it is taken
 abbrev pub fetch-taken : Answers → Cell → Type 0

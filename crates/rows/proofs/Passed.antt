@@ -1,8 +1,8 @@
 -- What each check says of the cells, whatever the places: an accepted plan passes, and a plan that passes is accepted. Assumes nothing.
-use mathlib.Core.Path.{_≡_, refl, sym, ap, subst, _∙_}
+use mathlib.Core.Path.{_≡_, refl, ap, _∙_}
 use mathlib.Core.Bool.{Bool, true, false, cond}
 use mathlib.Core.List.{List, [], _∷_}
-use Prim.Native.Nat.{ℕ, zero, suc, _+_, _-_, _<_, _≤_}
+use Prim.Native.Nat.{ℕ, _+_, _-_, _<_}
 use native.Mathlib.Omega.{arith}
 use lib.Dec.{eqb}
 use borrow.Author.Tests.{eqb-true, eqb-false, eq-eqb, ne-eqb}
@@ -19,7 +19,6 @@ use Rattle.plan.specs.declared.refusals.Refusal.{Refusal}
 use Rattle.plan.specs.declared.refusals.Refusal.the-variants.{Tree, Partitions, Windows}
 use Rattle.plan.specs.Refusals.{refused-at, then}
 use Rattle.operators.specs.Answers.{Answers}
-use Rattle.checks.specs.declared.facts.Fact.{Fact}
 use Rattle.checks.specs.Tree.{tree-from, tree-of}
 use Rattle.checks.specs.Cells.{fit-cell, fields-cell, hint-cell, passes-check, refusal-of, singly-from, singly}
 use Rattle.checks.specs.Facts.{head-fact, facts, miscounted, counted-from}
@@ -142,7 +141,7 @@ record Follows (cs : List Cell) (P : Type 0) (s t u : Option Cell → Cell → B
   so : Each-passes s None cs → Each-passes t None cs → Each-passes u None cs → P
 
 module _ (a : Answers) (cs : List Cell) where
-  -- the chain, whichever the checks of single cells are
+  -- the chain, whichever the checks of single cells are: they have no names outside their crate, so `search` finds them
   passed-by : (P : Type 0) (s t u : _) → Follows cs P (passes-check a s) (passes-check a t) (passes-check a u)
       → Grants (isOk (then (tree-of cs) (λ _. then (singly a s cs) (λ _. then (singly a t cs) (λ _. then (counted-from a 0 cs) (λ _. then (singly a u cs) (λ _. Ok (root-partitions a cs)))))))) (Trees 1 cs × Counted a cs × P)
   passed-by P s t u f =

@@ -1,3 +1,4 @@
 pub mod Sums
 pub mod Grow
 pub mod Hint
+pub mod Laws

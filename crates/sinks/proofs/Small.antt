@@ -28,7 +28,7 @@ use Rattle.rows.proofs.Passed.{refused-not}
 use Rattle.sinks.specs.declared.requirements.GlobalRequirements.{GlobalRequirements}
 use Rattle.sinks.specs.declared.requirements.Visited.{Visited}
 use Rattle.sinks.specs.Sink.{at-first, combined-fetch, past-limit, past-fetch, new-global, new-local, only-if, with-fetch, onward, satisfied-to, skipped-by, skipped, limit-over, fetching-by, combines-partitions, visited-by, visited, step-by, step, sunk, total-of, sum-by, sunk-sums}
-use Rattle.sinks.proofs.Visiting.{put, own-skip, own-fetch, none-both, visited-again, sunk-limit, sunk-node}
+use Rattle.sinks.proofs.Visiting.{put, own-skip, own-fetch, none-both, step-limit, step-node, sunk-limit, sunk-node}
 use Rattle.sinks.proofs.Sinking.{all-copies}
 
 abbrev Small-cell : Cell → Type 0
@@ -103,13 +103,6 @@ visited-small a r c P k s e =
     visited-by-small a own c (own-small r (c .fetch) k (fetch-small c s)) s P (own .fetch) e
 
 module _ (a : Answers) where
-  -- what goes on down
-  next-limit : (r : GlobalRequirements) (c : Cell) (fs : List Fact) → is-limit (c .kind) ≡ true → step a r c fs .1 ≡ past-limit r c (head-fact fs)
-  next-limit r c fs e = ap (λ b. step-by b a r c fs .1) e
-
-  next-node : (r : GlobalRequirements) (c : Cell) (fs : List Fact) → is-limit (c .kind) ≡ false → step a r c fs .1 ≡ visited a r c (fact-of a c fs .partitions) .next
-  next-node r c fs e = ap (λ b. step-by b a r c fs .1) e ∙ ap (λ s. s .1) (visited-again a (fact-of a c fs .partitions) r c)
-
   node-small : (r : GlobalRequirements) (rs : List GlobalRequirements) (at : ℕ) (c : Cell) (cs : List Cell) → Small-cell c → sunk-sums a (r ∷ rs) at (c ∷ cs) ≡ Ok tt → Small r → All Small rs → ((qs : List GlobalRequirements) → sunk-sums a qs (at + 1) cs ≡ Ok tt → All Small qs → All Small-cell (sunk a qs cs)) → All Small-cell (sunk a (r ∷ rs) (c ∷ cs))
   unfolding sunk-sums
   node-small r rs at c cs s e k ks ih = go (is-limit (c .kind)) refl
@@ -130,14 +123,14 @@ module _ (a : Answers) where
       go true eb =
           let sum : ltb max-number (r .skip + c .skip) ≡ false = subst (λ b. ltb max-number (sum-by b r c) ≡ false) eb (parts .0) in
           let child = head-fact (facts a cs) in
-          subst (All Small-cell) (sym (sunk-limit a r rs c cs eb)) (below (past-limit r c child) (next-limit r c (facts a cs) eb) (limit-small r c child k s (grind (arith, tells))))
+          subst (All Small-cell) (sym (sunk-limit a r rs c cs eb)) (below (past-limit r c child) (ap (λ s. s .1) (step-limit a r c (facts a cs) eb)) (limit-small r c child k s (grind (arith, tells))))
       go false eb =
           let P = fact-of a c (facts a cs) .partitions in
           let v = visited a r c P in
           let sum : ltb max-number (sum-by false r c) ≡ false = subst (λ b. ltb max-number (sum-by b r c) ≡ false) eb (parts .0) in
           let here = visited-small a r c P k s (not-above (sum-by false r c) sum) in
           subst (All Small-cell) (sym (sunk-node a r rs c cs eb))
-          (all-append Small-cell (listOf (v .above)) (v .node ∷ sunk a (replicate n (v .next) ++ rs) cs) (here .0) (here .1, below (v .next) (next-node r c (facts a cs) eb) (here .2)))
+          (all-append Small-cell (listOf (v .above)) (v .node ∷ sunk a (replicate n (v .next) ++ rs) cs) (here .0) (here .1, below (v .next) (ap (λ s. s .1) (step-node a r c (facts a cs) eb)) (here .2)))
         where
           not-above : (m : ℕ) → ltb max-number m ≡ false → m ≤ max-number
           not-above m e = grind (arith, tells)

@@ -172,36 +172,38 @@ module _ (a : Answers) (c : Cell) (Q : Cell → Type 0) (same : Q c) (other : (n
   pub visited-node : (r : GlobalRequirements) (partitions : ℕ) → Q (visited a r c partitions .node)
   visited-node r partitions = let own = past-fetch r (c .fetch) in visited-node-by own partitions (own .fetch)
 
+-- a step at a limit, and at any other node
+pub step-limit : (a : Answers) (r : GlobalRequirements) (c : Cell) (fs : List Fact) → is-limit (c .kind) ≡ true → step a r c fs ≡ ([], past-limit r c (head-fact fs))
+step-limit a r c fs e = ap (λ b. step-by b a r c fs) e
+
+pub step-node : (a : Answers) (r : GlobalRequirements) (c : Cell) (fs : List Fact) → is-limit (c .kind) ≡ false → let v = visited a r c (fact-of a c fs .partitions) in step a r c fs ≡ (put v [], v .next)
+step-node a r c fs e = ap (λ b. step-by b a r c fs) e ∙ visited-again a (fact-of a c fs .partitions) r c
+
 module _ (a : Answers) (r : GlobalRequirements) (rs : List GlobalRequirements) (c : Cell) (cs : List Cell) where
-  -- at a limit
   pub sunk-limit : is-limit (c .kind) ≡ true → sunk a (r ∷ rs) (c ∷ cs) ≡ sunk a (replicate (c .children) (past-limit r c (head-fact (facts a cs))) ++ rs) cs
   unfolding sunk
-  sunk-limit e = ap (λ b. let done = step-by b a r c (facts a cs) in done .0 ++ sunk a (replicate (c .children) (done .1) ++ rs) cs) e
+  sunk-limit e = ap (λ done. done .0 ++ sunk a (replicate (c .children) (done .1) ++ rs) cs) (step-limit a r c (facts a cs) e)
 
-  -- at any other node
   pub sunk-node : is-limit (c .kind) ≡ false → let v = visited a r c (fact-of a c (facts a cs) .partitions) in sunk a (r ∷ rs) (c ∷ cs) ≡ put v (sunk a (replicate (c .children) (v .next) ++ rs) cs)
   unfolding sunk
   sunk-node e =
-      let parts = fact-of a c (facts a cs) .partitions in
-      let v = visited a r c parts in
-      ap (λ b. let done = step-by b a r c (facts a cs) in done .0 ++ sunk a (replicate (c .children) (done .1) ++ rs) cs) e
-      ∙ ap (λ done. done .0 ++ sunk a (replicate (c .children) (done .1) ++ rs) cs) (visited-again a parts r c)
+      let v = visited a r c (fact-of a c (facts a cs) .partitions) in
+      ap (λ done. done .0 ++ sunk a (replicate (c .children) (done .1) ++ rs) cs) (step-node a r c (facts a cs) e)
       ∙ append-assoc (listOf (v .above)) (v .node ∷ []) (sunk a (replicate (c .children) (v .next) ++ rs) cs)
 
 -- no cell gives more than two
 step-length : (a : Answers) (r : GlobalRequirements) (c : Cell) (fs : List Fact) → length (step a r c fs .0) ≤ 2
-step-length a r c fs = go (is-limit (c .kind))
+step-length a r c fs = go (is-limit (c .kind)) refl
   where
     few : (o : Option Cell) (d : Cell) → length (listOf o ++ d ∷ []) ≤ 2
     few None d = omega arith
     few (Some l) d = omega arith
 
-    go : (b : Bool) → length (step-by b a r c fs .0) ≤ 2
-    go true = omega arith
-    go false =
-        let parts = fact-of a c fs .partitions in
-        let v = visited a r c parts in
-        subst (λ s. length (s .0) ≤ 2) (sym (visited-again a parts r c)) (few (v .above) (v .node))
+    go : (b : Bool) → is-limit (c .kind) ≡ b → length (step a r c fs .0) ≤ 2
+    go true e = subst (λ s. length (s .0) ≤ 2) (sym (step-limit a r c fs e)) (omega arith)
+    go false e =
+        let v = visited a r c (fact-of a c fs .partitions) in
+        subst (λ s. length (s .0) ≤ 2) (sym (step-node a r c fs e)) (few (v .above) (v .node))
 
 pub sunk-length : (a : Answers) (cs : List Cell) (rs : List GlobalRequirements) → length (sunk a rs cs) ≤ 2 * length cs
 unfolding sunk

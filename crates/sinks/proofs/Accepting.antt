@@ -10,9 +10,10 @@ use Rattle.std.specs.declared.result.Result.the-variants.{Ok}
 use Rattle.plan.specs.declared.cells.Cell.{Cell}
 use Rattle.operators.specs.Answers.{Answers}
 use Rattle.checks.specs.Cells.{small-cell, placed-cell, taken-cell, fields-cell}
-use Rattle.checks.specs.Accepts.{Accepted, root-partitions}
+use Rattle.checks.specs.Accepts.{Accepted}
+use Rattle.rows.specs.Laws.{Still-accepted}
 use Rattle.rows.proofs.Passed.{Fields, Passed, passed, accepted}
-use Rattle.sinks.specs.Sink.{at-first, sunk, sunk-sums}
+use Rattle.sinks.specs.Sink.{at-first, sunk-plan, sink-sums}
 use Rattle.sinks.specs.Laws.{Answer-rules}
 use Rattle.sinks.proofs.Sinking.{sunk-trees}
 use Rattle.sinks.proofs.Settling.{Stands, sunk-fit, sunk-stands}
@@ -39,19 +40,18 @@ module _ (a : Answers) where
       let taken = t .0 .1 in
       (grind (arith, tells), fields-from cs (s .1) (t .1))
 
-  pub sunk-accepted : Answer-rules a → (cs : List Cell) → Accepted a cs → sunk-sums a (at-first ∷ []) 0 cs ≡ Ok tt → let new = sunk a (at-first ∷ []) cs in Accepted a new × (root-partitions a new ≡ root-partitions a cs)
+  pub sunk-accepted : Answer-rules a → (cs : List Cell) → Accepted a cs → sink-sums a cs ≡ Ok tt → Still-accepted a cs (sunk-plan a cs)
   sunk-accepted shown cs h sums =
       let first = at-first ∷ [] in
-      let new = sunk a first cs in
       let p = passed a cs h in
       let stands = all-weaker (λ c. fields-cell a c ≡ true) (Stands a) stands-part cs (p .fields) in
       let smalls = all-weaker (λ c. fields-cell a c ≡ true) (λ c. small-cell c ≡ true) small-part cs (p .fields) in
       let counts = sunk-counts a shown cs (p .tree) (p .fit) (all-weaker (Stands a) (λ c. placed-cell c ≡ true) (λ c t. t .0) cs stands) (p .counts) in
-      let passes : Passed a new = record {
+      let passes : Passed a (sunk-plan a cs) = record {
         tree = sunk-trees a cs first (p .tree) (p .fit);
         fit = sunk-fit a cs first (p .fit);
-        fields = fields-from new (sunk-small a cs 0 smalls sums) (sunk-stands a cs first stands);
+        fields = fields-from (sunk-plan a cs) (sunk-small a cs smalls sums) (sunk-stands a cs first stands);
         counts = counts .0;
-        hints = sunk-hints a cs at-first (p .fit) (p .fields) (p .hints);
+        hints = sunk-hints a cs (p .fit) (p .fields) (p .hints);
       } in
-      (accepted a new passes, counts .1)
+      record { accepted = accepted a (sunk-plan a cs) passes; partitions = counts .1 }

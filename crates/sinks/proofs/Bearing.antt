@@ -27,7 +27,7 @@ use Rattle.rows.proofs.Passed.{Fit, Fields, Hints}
 use Rattle.rows.proofs.Base.{fields-fetch, kind-one, limit-kind}
 use Rattle.sinks.specs.declared.requirements.GlobalRequirements.{GlobalRequirements}
 use Rattle.sinks.specs.declared.requirements.Visited.{Visited}
-use Rattle.sinks.specs.Sink.{combined-fetch, known-within, past-limit, past-fetch, new-global, new-local, only-if, skipped-by, skipped, limit-over, limited, fetching-by, combines-partitions, visited-by, visited, sunk}
+use Rattle.sinks.specs.Sink.{at-first, combined-fetch, known-within, past-limit, past-fetch, new-global, new-local, only-if, skipped-by, skipped, limit-over, limited, fetching-by, combines-partitions, visited-by, visited, sunk, sunk-plan}
 use Rattle.sinks.proofs.Visiting.{put, visited-above, visited-node, sunk-limit, sunk-node}
 
 -- the hint of a cell stands on an aggregate
@@ -230,5 +230,5 @@ module _ (a : Answers) where
   sunk-hints-by (c ∷ cs) (r ∷ rs) t u fit fields h hand =
       node-hints r rs c cs t u (fit .0) (fields .0) (h .0) hand (λ qs w k. sunk-hints-by cs qs (Some c) w (fit .1) (fields .1) (h .1) k)
 
-  pub sunk-hints : (cs : List Cell) (r : GlobalRequirements) → Fit a cs → Fields a cs → Hints a None cs → Hints a None (sunk a (r ∷ []) cs)
-  sunk-hints cs r fit fields h = sunk-hints-by cs (r ∷ []) None None fit fields h (λ p k out. absurd (false≢true out))
+  pub sunk-hints : (cs : List Cell) → Fit a cs → Fields a cs → Hints a None cs → Hints a None (sunk-plan a cs)
+  sunk-hints cs fit fields h = sunk-hints-by cs (at-first ∷ []) None None fit fields h (λ p k out. absurd (false≢true out))

@@ -24,12 +24,13 @@ use Rattle.operators.specs.Rules.{Passing}
 use Rattle.checks.specs.declared.facts.Fact.{Fact}
 use Rattle.checks.specs.Cells.{fit-cell, placed-cell}
 use Rattle.checks.specs.Facts.{head-fact, together, fact-of, facts, miscounted}
+use Rattle.checks.specs.Accepts.{root-partitions}
 use Rattle.checks.proofs.Subtrees.{tree-facts}
 use Rattle.rows.proofs.Passed.{Trees, Fit, Counted, from-trees}
 use Rattle.rows.proofs.Base.{kind-one, limit-kind}
 use Rattle.sinks.specs.declared.requirements.GlobalRequirements.{GlobalRequirements}
 use Rattle.sinks.specs.declared.requirements.Visited.{Visited}
-use Rattle.sinks.specs.Sink.{at-first, past-limit, past-fetch, new-global, new-local, only-if, with-fetch, onward, satisfied-to, skipped-by, limit-over, fetching-by, combines-partitions, visited-by, visited, sunk}
+use Rattle.sinks.specs.Sink.{at-first, past-limit, past-fetch, new-global, new-local, only-if, with-fetch, onward, satisfied-to, skipped-by, limit-over, fetching-by, combines-partitions, visited-by, visited, sunk, sunk-plan}
 use Rattle.sinks.specs.Laws.{Answer-rules}
 use Rattle.sinks.proofs.Visiting.{put, own-skip, sunk-limit, sunk-node}
 use Rattle.sinks.proofs.Sinking.{trees-behind}
@@ -279,7 +280,7 @@ module _ (a : Answers) (shown : Answer-rules a) where
   first-same (f ∷ fs) [] h = absurd h
   first-same (f ∷ fs) (g ∷ gs) h = h .0
 
-  pub sunk-counts : (cs : List Cell) → Trees 1 cs → Fit a cs → All (λ c. placed-cell c ≡ true) cs → Counted a cs → let new = sunk a (at-first ∷ []) cs in Counted a new × (head-fact (facts a new) .partitions ≡ head-fact (facts a cs) .partitions)
+  pub sunk-counts : (cs : List Cell) → Trees 1 cs → Fit a cs → All (λ c. placed-cell c ≡ true) cs → Counted a cs → Counted a (sunk-plan a cs) × (root-partitions a (sunk-plan a cs) ≡ root-partitions a cs)
   sunk-counts cs tree fit placed count =
       let h = sunk-counted cs (at-first ∷ []) tree fit placed count (first-single (facts a cs) (facts-count a 1 cs tree)) in
-      (h .1, first-same (facts a cs) (facts a (sunk a (at-first ∷ []) cs)) (h .0))
+      (h .1, first-same (facts a cs) (facts a (sunk-plan a cs)) (h .0))

@@ -31,7 +31,7 @@ use Rattle.rows.proofs.Agreeing.{map-none, agree-count, agree-join, agree-rows,
 use Rattle.rows.proofs.Base.{fetch-taken, fields-fetch, kind-one, limit-kind, passing-at, made-limit, made-joined, made-meant, rows-count}
 use Rattle.sinks.specs.declared.requirements.GlobalRequirements.{GlobalRequirements}
 use Rattle.sinks.specs.declared.requirements.Visited.{Visited}
-use Rattle.sinks.specs.Sink.{at-first, combined-fetch, known-few, known-within, past-limit, past-fetch, new-global, new-local, only-if, with-fetch, onward, satisfied-to, stayed, skipped-by, skipped, gathered, fetched, limit-over, limited, fetching-by, combines-partitions, visited-by, visited, sunk}
+use Rattle.sinks.specs.Sink.{at-first, combined-fetch, known-few, known-within, past-limit, past-fetch, new-global, new-local, only-if, with-fetch, onward, satisfied-to, stayed, skipped-by, skipped, gathered, fetched, limit-over, limited, fetching-by, combines-partitions, visited-by, visited, sunk, sunk-plan}
 use Rattle.sinks.proofs.Visiting.{put, own-skip, own-fetch, none-both, visited-above, visited-node, sunk-limit, sunk-node}
 use Rattle.sinks.proofs.Truth.{True-of, Trues, own-fact, fact-own, trues-take, node-true, fits-children, facts-true}
 use Rattle.sinks.proofs.Cutting.{cutted, cutted-same, cutted-fetch, cutted-cutted, cutted-append, cutted-rows, cutted-total, take-again}
@@ -662,8 +662,8 @@ root-same (f ∷ fs) (o ∷ os) (n ∷ ns) eo en h =
     let tails : ns ≡ os = nil-from-length ns ln ∙ sym (nil-from-length os lo) in
     λ i. top i ∷ tails i
 
-pub sunk-rows : (a : Answers) (m : Meaning) → Rules a m → (cs : List Cell) → Trees 1 cs → Fit a cs → Fields a cs → rows m (sunk a (at-first ∷ []) cs) ≡ rows m cs
+pub sunk-rows : (a : Answers) (m : Meaning) → Rules a m → (cs : List Cell) → Trees 1 cs → Fit a cs → Fields a cs → rows m (sunk-plan a cs) ≡ rows m cs
 sunk-rows a m rules cs tree fit fields =
     let first = at-first ∷ [] in
-    root-same (facts a cs) (rows m cs) (rows m (sunk a first cs)) (rows-count m 1 cs tree) (rows-count m 1 (sunk a first cs) (sunk-trees a cs first tree fit))
+    root-same (facts a cs) (rows m cs) (rows m (sunk-plan a cs)) (rows-count m 1 cs tree) (rows-count m 1 (sunk-plan a cs) (sunk-trees a cs first tree fit))
     (sunk-held a m rules cs first tree fit fields ((λ e. absurd (false≢true e)), tt))

@@ -24,10 +24,11 @@ use Rattle.operators.specs.Questions.{passes-limits, takes-fetch, takes-mark}
 use Rattle.checks.specs.declared.facts.Fact.{Fact}
 use Rattle.checks.specs.Cells.{small, small-cell, taken-cell}
 use Rattle.checks.specs.Facts.{head-fact, fact-of, facts}
+use Rattle.rows.specs.Sums.{too-large}
 use Rattle.rows.proofs.Passed.{refused-not}
 use Rattle.sinks.specs.declared.requirements.GlobalRequirements.{GlobalRequirements}
 use Rattle.sinks.specs.declared.requirements.Visited.{Visited}
-use Rattle.sinks.specs.Sink.{at-first, combined-fetch, past-limit, past-fetch, new-global, new-local, only-if, with-fetch, onward, satisfied-to, skipped-by, skipped, limit-over, fetching-by, combines-partitions, visited-by, visited, step-by, step, sunk, total-of, sum-by, sunk-sums}
+use Rattle.sinks.specs.Sink.{at-first, combined-fetch, past-limit, past-fetch, new-global, new-local, only-if, with-fetch, onward, satisfied-to, skipped-by, skipped, limit-over, fetching-by, combines-partitions, visited-by, visited, step-by, step, sunk, sunk-plan, total-of, visit-sum, sink-sum-by, sink-sum, sink-sums-from, sink-sums}
 use Rattle.sinks.proofs.Visiting.{put, own-skip, own-fetch, none-both, step-limit, step-node, sunk-limit, sunk-node}
 use Rattle.sinks.proofs.Sinking.{all-copies}
 
@@ -93,18 +94,18 @@ module _ (a : Answers) (r : GlobalRequirements) (c : Cell) (k : Small r) (s : Sm
       let x = ltb 0 (r .skip) || eqb P 1 in
       (above-small (not (r .satisfied)) (limit-over x r n) (over-small x n e), s, (omega arith, refl))
 
-  visited-by-small : (P : ℕ) (f : Option ℕ) → total-of r f ≤ max-number → Small-visit (visited-by a r c P f)
+  visited-by-small : (P : ℕ) (f : Option ℕ) → too-large (total-of r f) ≡ false → Small-visit (visited-by a r c P f)
   visited-by-small P None e = skipped-small (ltb 0 (r .skip) && not (r .satisfied))
-  visited-by-small P (Some n) e = fetching-small (combines-partitions (c .kind)) (passes-limits a (c .kind) (c .parameter)) (takes-fetch a (c .kind) (c .parameter)) P n e
+  visited-by-small P (Some n) e = fetching-small (combines-partitions (c .kind)) (passes-limits a (c .kind) (c .parameter)) (takes-fetch a (c .kind) (c .parameter)) P n (grind (arith, tells))
 
-visited-small : (a : Answers) (r : GlobalRequirements) (c : Cell) (P : ℕ) → Small r → Small-cell c → sum-by false r c ≤ max-number → Small-visit (visited a r c P)
+visited-small : (a : Answers) (r : GlobalRequirements) (c : Cell) (P : ℕ) → Small r → Small-cell c → too-large (visit-sum r c) ≡ false → Small-visit (visited a r c P)
 visited-small a r c P k s e =
     let own = past-fetch r (c .fetch) in
     visited-by-small a own c (own-small r (c .fetch) k (fetch-small c s)) s P (own .fetch) e
 
 module _ (a : Answers) where
-  node-small : (r : GlobalRequirements) (rs : List GlobalRequirements) (at : ℕ) (c : Cell) (cs : List Cell) → Small-cell c → sunk-sums a (r ∷ rs) at (c ∷ cs) ≡ Ok tt → Small r → All Small rs → ((qs : List GlobalRequirements) → sunk-sums a qs (at + 1) cs ≡ Ok tt → All Small qs → All Small-cell (sunk a qs cs)) → All Small-cell (sunk a (r ∷ rs) (c ∷ cs))
-  unfolding sunk-sums
+  node-small : (r : GlobalRequirements) (rs : List GlobalRequirements) (at : ℕ) (c : Cell) (cs : List Cell) → Small-cell c → sink-sums-from a (r ∷ rs) at (c ∷ cs) ≡ Ok tt → Small r → All Small rs → ((qs : List GlobalRequirements) → sink-sums-from a qs (at + 1) cs ≡ Ok tt → All Small qs → All Small-cell (sunk a qs cs)) → All Small-cell (sunk a (r ∷ rs) (c ∷ cs))
+  unfolding sink-sums-from
   node-small r rs at c cs s e k ks ih = go (is-limit (c .kind)) refl
     where
       n : ℕ
@@ -113,66 +114,62 @@ module _ (a : Answers) where
       next : GlobalRequirements
       next = step a r c (facts a cs) .1
 
-      parts : (ltb max-number (sum-by (is-limit (c .kind)) r c) ≡ false) × (sunk-sums a (replicate n next ++ rs) (at + 1) cs ≡ Ok tt)
-      parts = refused-not (ltb max-number (sum-by (is-limit (c .kind)) r c)) Sum at (sunk-sums a (replicate n next ++ rs) (at + 1) cs) tt e
+      parts : (too-large (sink-sum r c) ≡ false) × (sink-sums-from a (replicate n next ++ rs) (at + 1) cs ≡ Ok tt)
+      parts = refused-not (too-large (sink-sum r c)) Sum at (sink-sums-from a (replicate n next ++ rs) (at + 1) cs) tt e
 
       below : (q : GlobalRequirements) → next ≡ q → Small q → All Small-cell (sunk a (replicate n q ++ rs) cs)
-      below q is small = ih (replicate n q ++ rs) (subst (λ x. sunk-sums a (replicate n x ++ rs) (at + 1) cs ≡ Ok tt) is (parts .1)) (all-copies Small n q rs small ks)
+      below q is small = ih (replicate n q ++ rs) (subst (λ x. sink-sums-from a (replicate n x ++ rs) (at + 1) cs ≡ Ok tt) is (parts .1)) (all-copies Small n q rs small ks)
 
       go : (b : Bool) → is-limit (c .kind) ≡ b → All Small-cell (sunk a (r ∷ rs) (c ∷ cs))
       go true eb =
-          let sum : ltb max-number (r .skip + c .skip) ≡ false = subst (λ b. ltb max-number (sum-by b r c) ≡ false) eb (parts .0) in
+          let sum : ltb max-number (r .skip + c .skip) ≡ false = subst (λ b. too-large (sink-sum-by b r c) ≡ false) eb (parts .0) in
           let child = head-fact (facts a cs) in
           subst (All Small-cell) (sym (sunk-limit a r rs c cs eb)) (below (past-limit r c child) (ap (λ s. s .1) (step-limit a r c (facts a cs) eb)) (limit-small r c child k s (grind (arith, tells))))
       go false eb =
           let P = fact-of a c (facts a cs) .partitions in
           let v = visited a r c P in
-          let sum : ltb max-number (sum-by false r c) ≡ false = subst (λ b. ltb max-number (sum-by b r c) ≡ false) eb (parts .0) in
-          let here = visited-small a r c P k s (not-above (sum-by false r c) sum) in
+          let here = visited-small a r c P k s (subst (λ b. too-large (sink-sum-by b r c) ≡ false) eb (parts .0)) in
           subst (All Small-cell) (sym (sunk-node a r rs c cs eb))
           (all-append Small-cell (listOf (v .above)) (v .node ∷ sunk a (replicate n (v .next) ++ rs) cs) (here .0) (here .1, below (v .next) (ap (λ s. s .1) (step-node a r c (facts a cs) eb)) (here .2)))
-        where
-          not-above : (m : ℕ) → ltb max-number m ≡ false → m ≤ max-number
-          not-above m e = grind (arith, tells)
 
-  sunk-small-by : (cs : List Cell) (rs : List GlobalRequirements) (at : ℕ) → All Small-cell cs → sunk-sums a rs at cs ≡ Ok tt → All Small rs → All Small-cell (sunk a rs cs)
+  sunk-small-by : (cs : List Cell) (rs : List GlobalRequirements) (at : ℕ) → All Small-cell cs → sink-sums-from a rs at cs ≡ Ok tt → All Small rs → All Small-cell (sunk a rs cs)
   unfolding sunk
   sunk-small-by [] rs at h e k = tt
   sunk-small-by (c ∷ cs) [] at h e k = tt
   sunk-small-by (c ∷ cs) (r ∷ rs) at h e k = node-small r rs at c cs (h .0) e (k .0) (k .1) (λ qs e2 k2. sunk-small-by cs qs (at + 1) (h .1) e2 k2)
 
-  pub sunk-small : (cs : List Cell) (at : ℕ) → All Small-cell cs → sunk-sums a (at-first ∷ []) at cs ≡ Ok tt → All Small-cell (sunk a (at-first ∷ []) cs)
-  sunk-small cs at h e = sunk-small-by cs (at-first ∷ []) at h e ((omega arith, refl), tt)
+  pub sunk-small : (cs : List Cell) → All Small-cell cs → sink-sums a cs ≡ Ok tt → All Small-cell (sunk-plan a cs)
+  sunk-small cs h e = sunk-small-by cs (at-first ∷ []) 0 h e ((omega arith, refl), tt)
 
 -- a second visit forms no larger sum than the first
 module _ (a : Answers) (r : GlobalRequirements) (c : Cell) (P : ℕ) (taken : taken-cell a c ≡ true) where
   abbrev own : GlobalRequirements
   own = past-fetch r (c .fetch)
 
-  abbrev Less : Visited → ℕ → Type 0
-  Less v sum = sum-by false (v .next) (v .node) ≤ sum
+  abbrev Fine : Visited → Type 0
+  Fine v = too-large (visit-sum (v .next) (v .node)) ≡ false
 
   -- with no fetch of its own the node forms no sum where none is pending
-  fetchless-sum : (q : GlobalRequirements) (sum : ℕ) → q .fetch ≡ None → c .fetch ≡ None → sum-by false q c ≤ sum
-  fetchless-sum q sum eq e = subst (λ f. (let next = past-fetch q f in total-of next (next .fetch)) ≤ sum) (sym e) (subst (λ f. total-of q f ≤ sum) (sym eq) (omega arith))
+  fetchless-sum : (q : GlobalRequirements) → q .fetch ≡ None → c .fetch ≡ None → too-large (visit-sum q c) ≡ false
+  fetchless-sum q eq e = ap (λ f. let next = past-fetch q f in too-large (total-of next (next .fetch))) e ∙ ap (λ f. too-large (total-of q f)) eq
 
   fetchless : (f : Option ℕ) → c .fetch ≡ f → takes-fetch a (c .kind) (c .parameter) ≡ false → f ≡ None
   fetchless None e h = refl
   fetchless (Some n) e h = absurd (let some : isSome (c .fetch) ≡ true = ap isSome e in let z : _≡_ {A = ℕ} 0 1 = grind (arith, tells) in omega arith)
 
-  skipped-less : (b : Bool) (sum : ℕ) → c .fetch ≡ None → isSome (skipped-by b own c .above) ≡ true → Less (skipped-by b own c) sum
-  skipped-less true sum e some = fetchless-sum (satisfied-to own None) sum refl e
-  skipped-less false sum e some = absurd (false≢true some)
+  skipped-fine : (b : Bool) → c .fetch ≡ None → isSome (skipped-by b own c .above) ≡ true → Fine (skipped-by b own c)
+  skipped-fine true e some = fetchless-sum (satisfied-to own None) refl e
+  skipped-fine false e some = absurd (false≢true some)
 
-  fetching-less : (x t y : Bool) (n : ℕ) → takes-fetch a (c .kind) (c .parameter) ≡ y → isSome (fetching-by x t y a own c P n .above) ≡ true → Less (fetching-by x t y a own c P n) (n + own .skip)
-  fetching-less true t y n e some = let total = n + own .skip in let l : min total (total - 0) + (0 + 0) ≤ total = omega arith in l
-  fetching-less false true y n e some = absurd (false≢true some)
-  fetching-less false false true n e some = let total = n + own .skip in let l : (total - 0) + (0 + 0) ≤ total = omega arith in l
-  fetching-less false false false n e some = fetchless-sum (satisfied-to own None) (n + own .skip) refl (fetchless (c .fetch) refl e)
+  fetching-fine : (x t y : Bool) (n : ℕ) → takes-fetch a (c .kind) (c .parameter) ≡ y → isSome (fetching-by x t y a own c P n .above) ≡ true → ltb max-number (n + own .skip) ≡ false → Fine (fetching-by x t y a own c P n)
+  fetching-fine true t y n e some fine = let total = n + own .skip in let same : min total (total - 0) + (0 + 0) ≡ total = omega arith in ap (ltb max-number) same ∙ fine
+  fetching-fine false true y n e some fine = absurd (false≢true some)
+  fetching-fine false false true n e some fine = let total = n + own .skip in let same : (total - 0) + (0 + 0) ≡ total = omega arith in ap (ltb max-number) same ∙ fine
+  fetching-fine false false false n e some fine = fetchless-sum (satisfied-to own None) refl (fetchless (c .fetch) refl e)
 
-  pub second-sum : isSome (visited a r c P .above) ≡ true → Less (visited a r c P) (sum-by false r c)
+  pub second-sum : isSome (visited a r c P .above) ≡ true → too-large (visit-sum r c) ≡ false → Fine (visited a r c P)
   second-sum = go (own .fetch) refl
     where
-      go : (f : Option ℕ) → past-fetch r (c .fetch) .fetch ≡ f → isSome (visited-by a own c P f .above) ≡ true → Less (visited-by a own c P f) (total-of own f)
-      go None e = skipped-less (ltb 0 (own .skip) && not (own .satisfied)) 0 (none-both (r .skip) (r .fetch) (c .fetch) (sym (own-fetch r (c .fetch)) ∙ e) .1)
-      go (Some n) e = fetching-less (combines-partitions (c .kind)) (passes-limits a (c .kind) (c .parameter)) (takes-fetch a (c .kind) (c .parameter)) n refl
+      go : (f : Option ℕ) → past-fetch r (c .fetch) .fetch ≡ f → isSome (visited-by a own c P f .above) ≡ true → too-large (total-of own f) ≡ false → Fine (visited-by a own c P f)
+      go None e some fine = skipped-fine (ltb 0 (own .skip) && not (own .satisfied)) (none-both (r .skip) (r .fetch) (c .fetch) (sym (own-fetch r (c .fetch)) ∙ e) .1) some
+      go (Some n) e some fine = fetching-fine (combines-partitions (c .kind)) (passes-limits a (c .kind) (c .parameter)) (takes-fetch a (c .kind) (c .parameter)) n refl some fine

@@ -21,7 +21,7 @@ use Rattle.checks.specs.declared.facts.Fact.{Fact}
 use Rattle.checks.specs.Facts.{head-fact, fact-of, facts}
 use Rattle.sinks.specs.declared.requirements.GlobalRequirements.{GlobalRequirements}
 use Rattle.sinks.specs.declared.requirements.Visited.{Visited}
-use Rattle.sinks.specs.Sink.{combined-fetch, past-limit, past-fetch, new-global, new-local, only-if, with-fetch, onward, satisfied-to, stayed, skipped-by, skipped, gathered, fetched, limit-over, limited, fetching-by, combines-partitions, visited-by, visited, again-by, settled, step-by, step, sunk, total-of, sum-by}
+use Rattle.sinks.specs.Sink.{combined-fetch, past-limit, past-fetch, new-global, new-local, only-if, with-fetch, onward, satisfied-to, stayed, skipped-by, skipped, gathered, fetched, limit-over, limited, fetching-by, combines-partitions, visited-by, visited, again-by, settled, step-by, step, sunk}
 
 -- the cells in a node's place, before those behind it
 abbrev pub put : Visited → List Cell → List Cell

@@ -15,24 +15,25 @@ use Rattle.operators.specs.Answers.{Answers}
 use Rattle.operators.specs.Rows.{Meaning, rows}
 use Rattle.operators.specs.Rules.{Passing, Rules}
 use Rattle.checks.specs.Cells.{taken-cell}
-use Rattle.checks.specs.Accepts.{root-partitions, Accepted}
+use Rattle.checks.specs.Accepts.{Accepted}
+use Rattle.rows.specs.Sums.{too-large}
+use Rattle.rows.specs.Laws.{Still-accepted}
 use Rattle.sinks.specs.declared.requirements.GlobalRequirements.{GlobalRequirements}
-use Rattle.sinks.specs.Sink.{at-first, visited, settled, sunk, sum-by, sunk-sums}
+use Rattle.sinks.specs.Sink.{visited, settled, sunk, sunk-plan, visit-sum, sink-sums}
 
--- whatever the operators mean, as long as they keep the rules: of an accepted plan the rows stay as they are
+-- sink keeps the rows
 abbrev pub Sink-keeps-rows : Type 0
-Sink-keeps-rows = (a : Answers) (m : Meaning) → Rules a m → (cells : List Cell) → Accepted a cells → rows m (sunk a (at-first ∷ []) cells) ≡ rows m cells
+Sink-keeps-rows = (a : Answers) (m : Meaning) → Rules a m → (cells : List Cell) → Accepted a cells → rows m (sunk-plan a cells) ≡ rows m cells
 
--- what the rules say of answers alone: what is answered of a kind from 16 on that passes limits
+-- what the rules say of the answers alone, of each kind from 16 on that passes limits
 abbrev pub Answer-rules : Answers → Type 0
 Answer-rules a = (k p : ℕ) → leb first-operator k ≡ true → a .limits-pass k p ≡ RowForRow → Passing a k p
 
--- where no sum is too large, an accepted plan stays accepted, and its root has as many partitions as before
+-- where no sum is too large, sink keeps a plan accepted
 abbrev pub Sink-keeps-accepted : Type 0
-Sink-keeps-accepted = (a : Answers) → Answer-rules a → (cells : List Cell) → Accepted a cells → sunk-sums a (at-first ∷ []) 0 cells ≡ Ok tt →
-    Accepted a (sunk a (at-first ∷ []) cells) × (root-partitions a (sunk a (at-first ∷ []) cells) ≡ root-partitions a cells)
+Sink-keeps-accepted = (a : Answers) → Answer-rules a → (cells : List Cell) → Accepted a cells → sink-sums a cells ≡ Ok tt → Still-accepted a cells (sunk-plan a cells)
 
--- no more than two cells stand in the place of one, so that a table of twice as many has room
+-- no more than two cells stand in the place of one, so that twice as many have room for them
 abbrev pub Sink-at-most-doubles : Type 0
 Sink-at-most-doubles = (a : Answers) (rs : List GlobalRequirements) (cells : List Cell) → length (sunk a rs cells) ≤ 2 * length cells
 
@@ -42,8 +43,8 @@ Second-visit-changes-nothing = (a : Answers) (r : GlobalRequirements) (c : Cell)
     let v = visited a r c partitions in
     settled a r c partitions ≡ (listOf (v .above) ++ v .node ∷ [], v .next)
 
--- and forms no larger sum than the first visit did, where a fetch stands only on what takes one
+-- and forms no sum that is too large where the first visit formed none, if a fetch stands only on what takes one
 abbrev pub Second-visit-sums-no-more : Type 0
 Second-visit-sums-no-more = (a : Answers) (r : GlobalRequirements) (c : Cell) (partitions : ℕ) → taken-cell a c ≡ true →
     let v = visited a r c partitions in
-    isSome (v .above) ≡ true → sum-by false (v .next) (v .node) ≤ sum-by false r c
+    isSome (v .above) ≡ true → too-large (visit-sum r c) ≡ false → too-large (visit-sum (v .next) (v .node)) ≡ false

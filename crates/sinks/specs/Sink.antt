@@ -13,7 +13,6 @@ use Rattle.plan.specs.declared.cells.Cell.{Cell}
 use Rattle.plan.specs.declared.refusals.Fault.{Fault}
 use Rattle.plan.specs.declared.refusals.Refusal.the-variants.{Sum}
 use Rattle.plan.specs.Kinds.{global-limit, local-limit, coalesce-partitions, sort-preserving-merge, is-limit}
-use Rattle.plan.specs.Numbers.{max-number}
 use Rattle.plan.specs.Refusals.{refused-at}
 use Rattle.operators.specs.Answers.{Answers}
 use Rattle.operators.specs.Questions.{passes-limits, takes-fetch, takes-mark}
@@ -21,6 +20,7 @@ use Rattle.checks.specs.declared.facts.KnownRows.{KnownRows}
 use Rattle.checks.specs.declared.facts.KnownRows.the-variants.{Unknown, NoRow, OneRow}
 use Rattle.checks.specs.declared.facts.Fact.{Fact}
 use Rattle.checks.specs.Facts.{head-fact, fact-of, facts}
+use Rattle.rows.specs.Sums.{too-large}
 use Rattle.sinks.specs.declared.requirements.GlobalRequirements.{GlobalRequirements}
 use Rattle.sinks.specs.declared.requirements.Visited.{Visited}
 
@@ -151,7 +151,7 @@ again-by a partitions first (Some limit) =
 abbrev pub settled : Answers → GlobalRequirements → Cell → ℕ → List Cell × GlobalRequirements
 settled a r c partitions = let first = visited a r c partitions in again-by a partitions first (first .above)
 
--- a limit is taken out, any other node is visited; behind the cell stand the subtrees with these facts
+-- a limit, which has one child, is taken out, and any other node is visited; behind the cell stand the subtrees with these facts
 abbrev pub step-by : (limit : Bool) → Answers → GlobalRequirements → Cell → List Fact → List Cell × GlobalRequirements
 step-by true a r c below = ([], past-limit r c (head-fact below))
 step-by false a r c below = settled a r c (fact-of a c below .partitions)
@@ -167,20 +167,34 @@ sunk a (r ∷ rs) (c ∷ cs) =
     let done = step a r c (facts a cs) in
     done .0 ++ sunk a (replicate (c .children) (done .1) ++ rs) cs
 
+-- what sink makes of a plan
+abbrev pub sunk-plan : Answers → List Cell → List Cell
+sunk-plan a cells = sunk a (at-first ∷ []) cells
+
 -- the total of fetch and skip, while a fetch is pending
-abbrev pub total-of : GlobalRequirements → Option ℕ → ℕ
-total-of r None = 0
-total-of r (Some fetch) = fetch + r .skip
+abbrev pub total-of : GlobalRequirements → Option ℕ → Option ℕ
+total-of r None = None
+total-of r (Some fetch) = Some (fetch + r .skip)
 
--- the sum that a cell has formed: of the skips at a limit, of fetch and skip at any other node
-abbrev pub sum-by : (limit : Bool) → GlobalRequirements → Cell → ℕ
-sum-by true r c = combined (r .skip) (r .fetch) (c .skip) (c .fetch) .0
-sum-by false r c = let own = past-fetch r (c .fetch) in total-of own (own .fetch)
+-- the sum that a visit forms, if it forms one
+abbrev pub visit-sum : GlobalRequirements → Cell → Option ℕ
+visit-sum r c = let own = past-fetch r (c .fetch) in total-of own (own .fetch)
 
--- the first cell at which a sum is too large is refused, at its place; a second visit forms no larger sum than the first, so it is left out
-unfoldable pub sunk-sums : Answers → List GlobalRequirements → ℕ → List Cell → Result (Unit {0}) Fault
-sunk-sums a rs at [] = Ok tt
-sunk-sums a [] at (c ∷ cs) = Ok tt
-sunk-sums a (r ∷ rs) at (c ∷ cs) =
-    cond (ltb max-number (sum-by (is-limit (c .kind)) r c)) (refused-at Sum at)
-    (sunk-sums a (replicate (c .children) (step a r c (facts a cs) .1) ++ rs) (at + 1) cs)
+-- the sum that is formed at a cell, if one is: of the skips at a limit; a second visit's is never larger than the first's, so it is left out
+abbrev pub sink-sum-by : (limit : Bool) → GlobalRequirements → Cell → Option ℕ
+sink-sum-by true r c = Some (combined (r .skip) (r .fetch) (c .skip) (c .fetch) .0)
+sink-sum-by false r c = visit-sum r c
+
+abbrev pub sink-sum : GlobalRequirements → Cell → Option ℕ
+sink-sum r c = sink-sum-by (is-limit (c .kind)) r c
+
+-- from requirements and a place on, the first cell at which a sum that is too large is formed is refused, at its place
+unfoldable pub sink-sums-from : Answers → List GlobalRequirements → ℕ → List Cell → Result (Unit {0}) Fault
+sink-sums-from a rs at [] = Ok tt
+sink-sums-from a [] at (c ∷ cs) = Ok tt
+sink-sums-from a (r ∷ rs) at (c ∷ cs) =
+    cond (too-large (sink-sum r c)) (refused-at Sum at) (sink-sums-from a (replicate (c .children) (step a r c (facts a cs) .1) ++ rs) (at + 1) cs)
+
+-- the first such cell of a plan
+abbrev pub sink-sums : Answers → List Cell → Result (Unit {0}) Fault
+sink-sums a cells = sink-sums-from a (at-first ∷ []) 0 cells

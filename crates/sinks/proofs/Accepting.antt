@@ -1,15 +1,14 @@
 -- Sink keeps an accepted plan accepted, if no sum is too large. Assumes nothing.
 use mathlib.Core.Path.{_≡_}
-use mathlib.Core.Bool.{true, _&&_}
+use mathlib.Core.Bool.{true}
 use mathlib.Core.List.{List, [], _∷_}
-use Prim.Native.Nat.{ℕ}
 use native.Mathlib.Omega.{arith}
 use Rattle.std.specs.shelf.Lists.{All}
 use Rattle.std.proofs.shelf.Ways.{tells}
 use Rattle.std.specs.declared.result.Result.the-variants.{Ok}
 use Rattle.plan.specs.declared.cells.Cell.{Cell}
 use Rattle.operators.specs.Answers.{Answers}
-use Rattle.checks.specs.Cells.{small-cell, placed-cell, taken-cell, fields-cell}
+use Rattle.checks.specs.Cells.{small-cell, placed-cell, fields-cell}
 use Rattle.checks.specs.Accepts.{Accepted}
 use Rattle.rows.specs.Laws.{Still-accepted}
 use Rattle.rows.proofs.Passed.{Fields, Passed, passed, accepted}

@@ -3,7 +3,7 @@ use mathlib.Core.Path.{_≡_, refl, sym, ap, subst, _∙_}
 use mathlib.Core.Bool.{Bool, true, false, cond, _&&_, _||_, not}
 use mathlib.Core.List.{List, [], _∷_, _++_}
 use mathlib.Core.Logic.{_⊎_, inl, inr}
-use Prim.Native.Nat.{ℕ, zero, suc, _+_, _-_, _≤_, _<_, min}
+use Prim.Native.Nat.{ℕ, zero, suc, _+_, _-_, _≤_, min}
 use native.Mathlib.Omega.{arith}
 use lib.Dec.{eqb, leb, ltb}
 use lib.ListN.{take, replicate}
@@ -27,7 +27,7 @@ use Rattle.rows.proofs.Passed.{Fit, Fields, Hints}
 use Rattle.rows.proofs.Base.{fields-fetch, kind-one, limit-kind}
 use Rattle.sinks.specs.declared.requirements.GlobalRequirements.{GlobalRequirements}
 use Rattle.sinks.specs.declared.requirements.Visited.{Visited}
-use Rattle.sinks.specs.Sink.{at-first, combined-fetch, known-within, past-limit, past-fetch, new-global, new-local, only-if, skipped-by, skipped, limit-over, limited, fetching-by, combines-partitions, visited-by, visited, sunk, sunk-plan}
+use Rattle.sinks.specs.Sink.{at-first, combined-fetch, known-within, past-limit, past-fetch, only-if, skipped-by, skipped, limit-over, limited, fetching-by, combines-partitions, visited-by, visited, sunk, sunk-plan}
 use Rattle.sinks.proofs.Visiting.{put, visited-above, visited-node, sunk-limit, sunk-node}
 
 -- the hint of a cell stands on an aggregate

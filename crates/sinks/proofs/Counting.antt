@@ -20,7 +20,6 @@ use Rattle.operators.specs.declared.answers.LimitsPass.{LimitsPass}
 use Rattle.operators.specs.declared.answers.LimitsPass.the-variants.{No, RowForRow}
 use Rattle.operators.specs.Answers.{Answers}
 use Rattle.operators.specs.Questions.{passes, passes-limits, takes-fetch, one-partition, count-by, partitions-of}
-use Rattle.operators.specs.Rules.{Passing}
 use Rattle.checks.specs.declared.facts.Fact.{Fact}
 use Rattle.checks.specs.Cells.{fit-cell, placed-cell}
 use Rattle.checks.specs.Facts.{head-fact, together, fact-of, facts, miscounted}
@@ -30,9 +29,9 @@ use Rattle.rows.proofs.Passed.{Trees, Fit, Counted, from-trees}
 use Rattle.rows.proofs.Base.{kind-one, limit-kind}
 use Rattle.sinks.specs.declared.requirements.GlobalRequirements.{GlobalRequirements}
 use Rattle.sinks.specs.declared.requirements.Visited.{Visited}
-use Rattle.sinks.specs.Sink.{at-first, past-limit, past-fetch, new-global, new-local, only-if, with-fetch, onward, satisfied-to, skipped-by, limit-over, fetching-by, combines-partitions, visited-by, visited, sunk, sunk-plan}
+use Rattle.sinks.specs.Sink.{at-first, past-limit, past-fetch, new-global, new-local, only-if, skipped-by, limit-over, fetching-by, combines-partitions, visited-by, visited, sunk, sunk-plan}
 use Rattle.sinks.specs.Laws.{Answer-rules}
-use Rattle.sinks.proofs.Visiting.{put, own-skip, sunk-limit, sunk-node}
+use Rattle.sinks.proofs.Visiting.{put, renewed, own-skip, sunk-limit, sunk-node}
 use Rattle.sinks.proofs.Sinking.{trees-behind}
 
 -- where something is pending to be skipped, there is one partition
@@ -150,7 +149,7 @@ module _ (a : Answers) where
     limited-counts n false = limit-counts n (ltb 0 (r .skip) || eqb M 1) refl
 
     fetching-counts : (x t y : Bool) (n : ℕ) → Here (fetching-by x t y a r c M n)
-    fetching-counts true t y n = above-counts (with-fetch c (n + r .skip) (c .mark)) T rest lim same rest-counted lo hi (ltb 0 (r .skip)) (r .skip) (Some n) (λ e. single (ltb-true 0 (r .skip) e))
+    fetching-counts true t y n = above-counts (renewed c (n + r .skip) (c .mark)) T rest lim same rest-counted lo hi (ltb 0 (r .skip)) (r .skip) (Some n) (λ e. single (ltb-true 0 (r .skip) e))
     fetching-counts false true y n = one-counts c T rest lim same rest-counted lo hi
     fetching-counts false false true n = above-counts (fetching-by false false true a r c M n .node) T rest lim same rest-counted lo hi (ltb 0 (r .skip) && not (r .satisfied)) (r .skip) (Some n) (λ e. single (grind (arith, tells)))
     fetching-counts false false false n = limited-counts n (r .satisfied)

@@ -4,7 +4,7 @@ use mathlib.Core.Bool.{Bool, true, false, cond, _&&_, _||_, not}
 use mathlib.Core.List.{List, [], _∷_, _++_}
 use Prim.Native.Nat.{ℕ, _+_, _-_, _≤_, min}
 use native.Mathlib.Omega.{arith}
-use lib.Dec.{eqb, leb, ltb}
+use lib.Dec.{eqb, ltb}
 use lib.ListN.{replicate}
 use Rattle.std.specs.Options.{isSome}
 use Rattle.std.specs.Vec.{listOf}
@@ -28,8 +28,8 @@ use Rattle.rows.specs.Sums.{too-large}
 use Rattle.rows.proofs.Passed.{refused-not}
 use Rattle.sinks.specs.declared.requirements.GlobalRequirements.{GlobalRequirements}
 use Rattle.sinks.specs.declared.requirements.Visited.{Visited}
-use Rattle.sinks.specs.Sink.{at-first, combined-fetch, past-limit, past-fetch, new-global, new-local, only-if, with-fetch, onward, satisfied-to, skipped-by, skipped, limit-over, fetching-by, combines-partitions, visited-by, visited, step-by, step, sunk, sunk-plan, total-of, visit-sum, sink-sum-by, sink-sum, sink-sums-from, sink-sums}
-use Rattle.sinks.proofs.Visiting.{put, own-skip, own-fetch, none-both, step-limit, step-node, sunk-limit, sunk-node}
+use Rattle.sinks.specs.Sink.{at-first, combined-fetch, past-limit, past-fetch, new-global, only-if, onward, satisfied-to, skipped-by, limit-over, fetching-by, combines-partitions, visited-by, visited, step, sunk, sunk-plan, total-of, visit-sum, sink-sum-by, sink-sum, sink-sums-from, sink-sums}
+use Rattle.sinks.proofs.Visiting.{renewed, own-skip, own-fetch, none-both, step-limit, step-node, sunk-limit, sunk-node}
 use Rattle.sinks.proofs.Sinking.{all-copies}
 
 abbrev Small-cell : Cell → Type 0
@@ -73,7 +73,7 @@ module _ (a : Answers) (r : GlobalRequirements) (c : Cell) (k : Small r) (s : Sm
   above-small true l h = (h, tt)
   above-small false l h = tt
 
-  other-small : (n : ℕ) (b : Bool) → n ≤ max-number → Small-cell (with-fetch c n b)
+  other-small : (n : ℕ) (b : Bool) → n ≤ max-number → Small-cell (renewed c n b)
   other-small n b e = grind (arith, tells)
 
   over-small : (b : Bool) (n : ℕ) → n + r .skip ≤ max-number → Small-cell (limit-over b r n)

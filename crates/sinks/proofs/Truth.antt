@@ -4,7 +4,7 @@ use mathlib.Core.Bool.{Bool, true, false, cond, _&&_, _||_, not}
 use mathlib.Core.List.{List, [], _∷_, map}
 use Prim.Native.Nat.{ℕ, zero, suc, _+_, _-_, _≤_, _<_}
 use native.Mathlib.Omega.{arith}
-use lib.Dec.{eqb, leb, ltb}
+use lib.Dec.{eqb}
 use lib.ListN.{length, take, drop}
 use Rattle.std.proofs.shelf.Lists.{take-take, take-map, length-take, nil-from-length}
 use Rattle.std.proofs.shelf.Tests.{false≢true, eqb-true}
@@ -14,7 +14,7 @@ use Rattle.std.specs.declared.option.Option.the-variants.{Some, None}
 use Rattle.plan.specs.declared.cells.Cell.{Cell}
 use Rattle.plan.specs.Kinds.{placeholder-row, projection, coalesce-partitions, is-limit}
 use Rattle.operators.specs.Answers.{Answers}
-use Rattle.operators.specs.Questions.{fits-of, passes-limits, empty-of}
+use Rattle.operators.specs.Questions.{fits-of, empty-of}
 use Rattle.operators.specs.Rows.{Row, Partitions, Meaning, cut, concat, made, node-rows, rows}
 use Rattle.operators.specs.Rules.{At-most, all-true, each, Known-true, Rules}
 use Rattle.checks.specs.declared.facts.KnownRows.{KnownRows}
@@ -24,7 +24,7 @@ use Rattle.checks.specs.Cells.{fit-cell}
 use Rattle.checks.specs.Facts.{is-empty, head-fact, together, rows-known, fact-with, fact-of, facts}
 use Rattle.rows.proofs.Passed.{Trees, Fit}
 use Rattle.rows.proofs.Agreeing.{map-map, map-same, map-each, take-swap, drop-nil, concat-one}
-use Rattle.rows.proofs.Base.{kind-one, limit-kind, made-limit, made-joined, made-meant, rows-count}
+use Rattle.rows.proofs.Base.{kind-one, made-limit, made-joined, made-meant, rows-count}
 
 abbrev pub True-of : KnownRows → Partitions → Type 0
 True-of Unknown o = Unit {0}

@@ -3,3 +3,7 @@ pub mod Truth
 pub mod Cutting
 pub mod Sinking
 pub mod Settling
+pub mod Counting
+pub mod Bearing
+pub mod Small
+pub mod Accepting

@@ -1,33 +1,29 @@
 -- Every cell that sink leaves fits, and its fields stand where they may. Assumes nothing.
 use mathlib.Core.Path.{_≡_, refl, sym, subst}
-use mathlib.Core.Bool.{Bool, true, false, cond, _&&_, _||_, not}
+use mathlib.Core.Bool.{Bool, true, false}
 use mathlib.Core.List.{List, [], _∷_, _++_}
 use Prim.Native.Nat.{ℕ}
 use native.Mathlib.Omega.{arith}
-use lib.Dec.{eqb, leb, ltb}
 use lib.ListN.{replicate}
-use Rattle.std.specs.Options.{isSome}
 use Rattle.std.specs.Vec.{listOf}
 use Rattle.std.specs.shelf.Lists.{All}
 use Rattle.std.proofs.shelf.Elements.{all-append}
 use Rattle.std.proofs.shelf.Ways.{tells}
 use Rattle.std.specs.declared.option.Option.{Option}
-use Rattle.std.specs.declared.option.Option.the-variants.{Some, None}
 use Rattle.plan.specs.declared.cells.Cell.{Cell}
 use Rattle.plan.specs.Kinds.{is-limit}
 use Rattle.operators.specs.Answers.{Answers}
-use Rattle.operators.specs.Questions.{takes-fetch, takes-mark}
+use Rattle.operators.specs.Questions.{takes-fetch}
 use Rattle.checks.specs.Cells.{fit-cell, placed-cell, taken-cell}
 use Rattle.checks.specs.Facts.{head-fact, fact-of, facts}
 use Rattle.rows.proofs.Passed.{Fit}
 use Rattle.sinks.specs.declared.requirements.GlobalRequirements.{GlobalRequirements}
-use Rattle.sinks.specs.declared.requirements.Visited.{Visited}
-use Rattle.sinks.specs.Sink.{new-global, new-local, with-fetch, past-limit, visited, sunk}
-use Rattle.sinks.proofs.Visiting.{put, mark-taken, visited-above, visited-node, sunk-limit, sunk-node}
+use Rattle.sinks.specs.Sink.{new-global, new-local, past-limit, visited, sunk}
+use Rattle.sinks.proofs.Visiting.{renewed, mark-taken, visited-above, visited-node, sunk-limit, sunk-node}
 
 -- what holds of the new limits, and of each node that stands in a node's place, holds of all new cells
 module _ (a : Answers) (T U : Cell → Type 0) (global : (s : ℕ) (f : Option ℕ) → T (new-global s f)) (local : (n : ℕ) → T (new-local n)) (same : (c : Cell) → U c → T c)
-    (other : (c : Cell) → U c → (n : ℕ) (b : Bool) → takes-fetch a (c .kind) (c .parameter) ≡ true → (mark-taken a c (c .mark) → mark-taken a c b) → T (with-fetch c n b)) where
+    (other : (c : Cell) → U c → (n : ℕ) (b : Bool) → takes-fetch a (c .kind) (c .parameter) ≡ true → (mark-taken a c (c .mark) → mark-taken a c b) → T (renewed c n b)) where
   node-each : (r : GlobalRequirements) (rs : List GlobalRequirements) (c : Cell) (cs : List Cell) → U c → ((qs : List GlobalRequirements) → All T (sunk a qs cs)) → All T (sunk a (r ∷ rs) (c ∷ cs))
   node-each r rs c cs u ih = go (is-limit (c .kind)) refl
     where
@@ -57,7 +53,7 @@ module _ (a : Answers) where
   global-stands : (s : ℕ) (f : Option ℕ) → Stands (new-global s f)
   global-stands s f = (grind (arith, tells), grind (arith, tells))
 
-  other-stands : (c : Cell) → Stands c → (n : ℕ) (b : Bool) → takes-fetch a (c .kind) (c .parameter) ≡ true → (mark-taken a c (c .mark) → mark-taken a c b) → Stands (with-fetch c n b)
+  other-stands : (c : Cell) → Stands c → (n : ℕ) (b : Bool) → takes-fetch a (c .kind) (c .parameter) ≡ true → (mark-taken a c (c .mark) → mark-taken a c b) → Stands (renewed c n b)
   other-stands c u n b k e =
       let placed = u .0 in
       let taken = u .1 in

@@ -2,10 +2,10 @@
 use mathlib.Core.Path.{_≡_, refl, sym, ap, subst, _∙_}
 use mathlib.Core.Bool.{Bool, true, false, cond, _&&_, _||_, not}
 use mathlib.Core.List.{List, [], _∷_, _++_, map, map-append}
-use mathlib.Core.Logic.{_⊎_, inl, inr}
-use Prim.Native.Nat.{ℕ, zero, suc, _+_, _-_, _≤_, _<_}
+use mathlib.Core.Logic.{_⊎_}
+use Prim.Native.Nat.{ℕ, zero, suc, _+_, _-_, _<_}
 use native.Mathlib.Omega.{arith}
-use lib.Dec.{eqb, leb, ltb}
+use lib.Dec.{eqb, ltb}
 use lib.ListN.{length, take, drop, replicate}
 use Rattle.std.specs.Options.{isSome}
 use Rattle.std.specs.Vec.{listOf}
@@ -24,15 +24,15 @@ use Rattle.operators.specs.Rules.{Agree, At-most, each, row-for-row, Rules}
 use Rattle.checks.specs.declared.facts.KnownRows.{KnownRows}
 use Rattle.checks.specs.declared.facts.KnownRows.the-variants.{Unknown, NoRow, OneRow}
 use Rattle.checks.specs.declared.facts.Fact.{Fact}
-use Rattle.checks.specs.Cells.{fit-cell, fields-cell}
+use Rattle.checks.specs.Cells.{fit-cell}
 use Rattle.checks.specs.Facts.{head-fact, together, fact-of, facts}
 use Rattle.rows.proofs.Passed.{Trees, Fit, Fields}
 use Rattle.rows.proofs.Agreeing.{map-none, agree-count, agree-join, agree-rows, at-most-more, empty-same, concat-one}
 use Rattle.rows.proofs.Base.{fetch-taken, fields-fetch, kind-one, limit-kind, passing-at, made-limit, made-joined, made-meant, rows-count}
 use Rattle.sinks.specs.declared.requirements.GlobalRequirements.{GlobalRequirements}
 use Rattle.sinks.specs.declared.requirements.Visited.{Visited}
-use Rattle.sinks.specs.Sink.{at-first, combined-fetch, known-few, known-within, past-limit, past-fetch, new-global, new-local, only-if, with-fetch, onward, satisfied-to, stayed, skipped-by, skipped, gathered, fetched, limit-over, limited, fetching-by, combines-partitions, visited-by, visited, sunk}
-use Rattle.sinks.proofs.Visiting.{put, own-skip, own-fetch, none-both, visited-above, visited-node, sunk-limit, sunk-node}
+use Rattle.sinks.specs.Sink.{at-first, combined-fetch, known-few, known-within, past-limit, past-fetch, new-global, new-local, only-if, onward, satisfied-to, stayed, skipped-by, skipped, gathered, fetched, limit-over, limited, fetching-by, combines-partitions, visited-by, visited, sunk, sunk-plan}
+use Rattle.sinks.proofs.Visiting.{put, renewed, own-skip, own-fetch, none-both, visited-above, visited-node, sunk-limit, sunk-node}
 use Rattle.sinks.proofs.Truth.{True-of, Trues, own-fact, fact-own, trues-take, node-true, fits-children, facts-true}
 use Rattle.sinks.proofs.Cutting.{cutted, cutted-same, cutted-fetch, cutted-cutted, cutted-append, cutted-rows, cutted-total, take-again}
 
@@ -238,11 +238,11 @@ own-unmet r (Some f) ready e = go (r .satisfied) refl
     go false eb = grind (arith, tells)
 
 -- another fetch or mark changes nothing of what is made
-made-other : (a : Answers) (m : Meaning) → Rules a m → (c : Cell) (n : ℕ) (b : Bool) (os : List Partitions) → fits-of a (c .kind) (c .parameter) (length os) ≡ true → made m (with-fetch c n b) os ≡ made m c os
+made-other : (a : Answers) (m : Meaning) → Rules a m → (c : Cell) (n : ℕ) (b : Bool) (os : List Partitions) → fits-of a (c .kind) (c .parameter) (length os) ≡ true → made m (renewed c n b) os ≡ made m c os
 unfolding made-by
 made-other a m rules c n b os fit = go (is-limit (c .kind)) (eqb (c .kind) coalesce-partitions)
   where
-    go : (l j : Bool) → made-by l j m (with-fetch c n b) os ≡ made-by l j m c os
+    go : (l j : Bool) → made-by l j m (renewed c n b) os ≡ made-by l j m c os
     go true j = refl
     go false true = refl
     go false false = rules .at (c .kind) (c .parameter) .mark b (c .mark) (c .hint) os fit
@@ -282,15 +282,15 @@ module _ (a : Answers) (m : Meaning) (rules : Rules a m) where
     empty-node e1 e4 = known-empty a c fs O e1 e4 (node-true a m rules c fs os fit true-kids)
 
     -- a node that gets the total as its fetch, under a limit if something is skipped
-    total-placed : (n : ℕ) (b mk : Bool) → own .fetch ≡ Some n → b ≡ ltb 0 (r .skip) → eqb (c .kind) placeholder-row ≡ false → eqb (c .kind) projection ≡ false → length ns ≡ length os → Agree (n + r .skip) (made m c os) (made m c ns) → Placed m r F O (listOf (only-if b (new-global (r .skip) (Some n))) ++ with-fetch c (n + r .skip) mk ∷ rest) after
+    total-placed : (n : ℕ) (b mk : Bool) → own .fetch ≡ Some n → b ≡ ltb 0 (r .skip) → eqb (c .kind) placeholder-row ≡ false → eqb (c .kind) projection ≡ false → length ns ≡ length os → Agree (n + r .skip) (made m c os) (made m c ns) → Placed m r F O (listOf (only-if b (new-global (r .skip) (Some n))) ++ renewed c (n + r .skip) mk ∷ rest) after
     total-placed n b mk eo eb e1 e4 count agree = (
       cond b (cutted (r .skip) (Some n) X) X,
-      above-rows m (with-fetch c (n + r .skip) mk) rest b (r .skip) (Some n),
+      above-rows m (renewed c (n + r .skip) mk) rest b (r .skip) (Some n),
       held-cut r F O (cond b (cutted (r .skip) (Some n) X) X) ready (empty-node e1 e4) (top b eb ∙ sym (wanted ∙ ap (λ z. cutted (r .skip) z (made m c os)) eo)),
     )
       where
         X : Partitions
-        X = node-rows m (with-fetch c (n + r .skip) mk) ns
+        X = node-rows m (renewed c (n + r .skip) mk) ns
 
         x-is : X ≡ map (take (n + r .skip)) (made m c os)
         x-is = ap (map (take (n + r .skip))) (made-other a m rules c (n + r .skip) mk ns (subst (λ k. fits-of a (c .kind) (c .parameter) k ≡ true) (sym count) fit)) ∙ sym agree
@@ -329,7 +329,7 @@ module _ (a : Answers) (m : Meaning) (rules : Rules a m) where
         let es = own-skip r (c .fetch) in
         let next = satisfied-to own (Some (n + own .skip)) in
         let agree : Agree (n + r .skip) (made m c os) (made m c ns) = subst (λ s. Agree (n + s) (made m c os) (made m c ns)) es (combines-agree (n + own .skip) next refl refl k kids) in
-        subst (λ s. Placed m r F O (listOf (only-if (ltb 0 s) (new-global s (Some n))) ++ with-fetch c (n + s) (c .mark) ∷ rest) after) (sym es)
+        subst (λ s. Placed m r F O (listOf (only-if (ltb 0 s) (new-global s (Some n))) ++ renewed c (n + s) (c .mark) ∷ rest) after) (sym es)
         (total-placed n (ltb 0 (r .skip)) (c .mark) eo refl (grind (arith, tells)) (grind (arith, tells)) (kids-length next fs os ns kids) agree)
 
     fetched-placed : (n : ℕ) → own .fetch ≡ Some n → takes-fetch a (c .kind) (c .parameter) ≡ true → Kids (fetched a own c n .next) fs os ns → Placed m r F O (put (fetched a own c n) rest) after
@@ -338,7 +338,7 @@ module _ (a : Answers) (m : Meaning) (rules : Rules a m) where
         let same = satisfied-same own kids in
         let mk = cond (takes-mark a (c .kind) (c .parameter)) (own .«preserve_order») (c .mark) in
         let eb : (ltb 0 (r .skip) && not (own .satisfied)) ≡ ltb 0 (r .skip) = unmet (ltb 0 (r .skip)) refl in
-        subst (λ s. Placed m r F O (listOf (only-if (ltb 0 s && not (own .satisfied)) (new-global s (Some n))) ++ with-fetch c (n + s) mk ∷ rest) after) (sym es)
+        subst (λ s. Placed m r F O (listOf (only-if (ltb 0 s && not (own .satisfied)) (new-global s (Some n))) ++ renewed c (n + s) mk ∷ rest) after) (sym es)
         (total-placed n (ltb 0 (r .skip) && not (own .satisfied)) mk eo eb (grind (arith, tells)) (grind (arith, tells)) (ap length same) (ap (λ z. map (take (n + r .skip)) (made m c z)) (sym same)))
       where
         unmet : (b : Bool) → ltb 0 (r .skip) ≡ b → (b && not (own .satisfied)) ≡ b
@@ -662,8 +662,8 @@ root-same (f ∷ fs) (o ∷ os) (n ∷ ns) eo en h =
     let tails : ns ≡ os = nil-from-length ns ln ∙ sym (nil-from-length os lo) in
     λ i. top i ∷ tails i
 
-pub sunk-rows : (a : Answers) (m : Meaning) → Rules a m → (cs : List Cell) → Trees 1 cs → Fit a cs → Fields a cs → rows m (sunk a (at-first ∷ []) cs) ≡ rows m cs
+pub sunk-rows : (a : Answers) (m : Meaning) → Rules a m → (cs : List Cell) → Trees 1 cs → Fit a cs → Fields a cs → rows m (sunk-plan a cs) ≡ rows m cs
 sunk-rows a m rules cs tree fit fields =
     let first = at-first ∷ [] in
-    root-same (facts a cs) (rows m cs) (rows m (sunk a first cs)) (rows-count m 1 cs tree) (rows-count m 1 (sunk a first cs) (sunk-trees a cs first tree fit))
+    root-same (facts a cs) (rows m cs) (rows m (sunk-plan a cs)) (rows-count m 1 cs tree) (rows-count m 1 (sunk-plan a cs) (sunk-trees a cs first tree fit))
     (sunk-held a m rules cs first tree fit fields ((λ e. absurd (false≢true e)), tt))

@@ -4,7 +4,7 @@ use mathlib.Core.Bool.{Bool, true, false, cond, _&&_, _||_, not}
 use mathlib.Core.List.{List, [], _∷_, map}
 use Prim.Native.Nat.{ℕ, zero, suc, _+_, _-_, _≤_, _<_}
 use native.Mathlib.Omega.{arith}
-use lib.Dec.{eqb, leb, ltb}
+use lib.Dec.{eqb}
 use lib.ListN.{length, take, drop}
 use Rattle.std.proofs.shelf.Lists.{take-take, take-map, length-take, nil-from-length}
 use Rattle.std.proofs.shelf.Tests.{false≢true, eqb-true}
@@ -14,7 +14,7 @@ use Rattle.std.specs.declared.option.Option.the-variants.{Some, None}
 use Rattle.plan.specs.declared.cells.Cell.{Cell}
 use Rattle.plan.specs.Kinds.{placeholder-row, projection, coalesce-partitions, is-limit}
 use Rattle.operators.specs.Answers.{Answers}
-use Rattle.operators.specs.Questions.{fits-of, passes-limits, empty-of}
+use Rattle.operators.specs.Questions.{fits-of, empty-of}
 use Rattle.operators.specs.Rows.{Row, Partitions, Meaning, cut, concat, made, node-rows, rows}
 use Rattle.operators.specs.Rules.{At-most, all-true, each, Known-true, Rules}
 use Rattle.checks.specs.declared.facts.KnownRows.{KnownRows}
@@ -24,7 +24,7 @@ use Rattle.checks.specs.Cells.{fit-cell}
 use Rattle.checks.specs.Facts.{is-empty, head-fact, together, rows-known, fact-with, fact-of, facts}
 use Rattle.rows.proofs.Passed.{Trees, Fit}
 use Rattle.rows.proofs.Agreeing.{map-map, map-same, map-each, take-swap, drop-nil, concat-one}
-use Rattle.rows.proofs.Base.{kind-one, limit-kind, made-limit, made-joined, made-meant, rows-count}
+use Rattle.rows.proofs.Base.{kind-one, made-limit, made-joined, made-meant, rows-count}
 
 abbrev pub True-of : KnownRows → Partitions → Type 0
 True-of Unknown o = Unit {0}
@@ -148,30 +148,45 @@ module _ (a : Answers) (m : Meaning) (rules : Rules a m) (c : Cell) (fs : List F
   abbrev Empty : Type 0
   Empty = empty-of a (c .kind) (c .parameter) (together fs .empty) ≡ true
 
-  -- the one child of a limit, or of kind 5, that is known empty
-  one-empty : 2 ≤ c .kind → c .kind < 9 → Empty → (o : Partitions) × (os ≡ o ∷ []) × At-most 0 o
-  one-empty lo hi k =
+  -- a limit, or kind 5, over one child that is known empty
+  one-empty : 2 ≤ c .kind → c .kind < 9 → Empty → ((o : Partitions) → os ≡ o ∷ [] → At-most 0 o → At-most 0 (made m c os)) → At-most 0 (made m c os)
+  one-empty lo hi k so =
       let u = only fs os h (kind-one a (c .kind) (c .parameter) (length os) fit lo (omega arith)) in
       let kf : empty-of a (c .kind) (c .parameter) (is-empty (u .0 .rows) && true) ≡ true = subst (λ z. empty-of a (c .kind) (c .parameter) (together z .empty) ≡ true) (u .2) k in
       let isn : is-empty (u .0 .rows) ≡ true = grind (arith, tells) in
-      (u .1, u .3, none-true (u .0 .rows) (u .1) (u .4) isn)
+      so (u .1) (u .3) (none-true (u .0 .rows) (u .1) (u .4) isn)
+
+  limit-empty : is-limit (c .kind) ≡ true → (o : Partitions) → os ≡ o ∷ [] → At-most 0 o → At-most 0 (made m c os)
+  limit-empty lim o e none =
+      let at : made m c os ≡ map (drop (c .skip)) o = made-limit m c os lim ∙ ap (λ z. map (drop (c .skip)) (concat z)) e ∙ ap (map (drop (c .skip))) (concat-one o) in
+      subst (At-most 0) (sym at) (at-most-drop (c .skip) o none)
+
+  joined-empty : is-limit (c .kind) ≡ false → eqb (c .kind) coalesce-partitions ≡ true → (o : Partitions) → os ≡ o ∷ [] → At-most 0 o → At-most 0 (made m c os)
+  joined-empty lim five o e none =
+      let at : made m c os ≡ concat o ∷ [] = made-joined m c os lim five ∙ ap (λ z. concat (concat z) ∷ []) e ∙ ap (λ z. concat z ∷ []) (concat-one o) in
+      subst (At-most 0) (sym at) (at-most-join o none)
 
   empty-made : Empty → At-most 0 (made m c os)
   empty-made k = go (is-limit (c .kind)) (eqb (c .kind) coalesce-partitions) refl refl
     where
       go : (l j : Bool) → is-limit (c .kind) ≡ l → eqb (c .kind) coalesce-partitions ≡ j → At-most 0 (made m c os)
-      go true j e1 e2 =
-          let u = one-empty (grind (arith, tells)) (grind (arith, tells)) k in
-          let at : made m c os ≡ map (drop (c .skip)) (u .0) = made-limit m c os e1 ∙ ap (λ z. map (drop (c .skip)) (concat z)) (u .1) ∙ ap (map (drop (c .skip))) (concat-one (u .0)) in
-          subst (At-most 0) (sym at) (at-most-drop (c .skip) (u .0) (u .2))
-      go false true e1 e2 =
-          let u = one-empty (grind (arith, tells)) (grind (arith, tells)) k in
-          let at : made m c os ≡ concat (u .0) ∷ [] = made-joined m c os e1 e2 ∙ ap (λ z. concat (concat z) ∷ []) (u .1) ∙ ap (λ z. concat z ∷ []) (concat-one (u .0)) in
-          subst (At-most 0) (sym at) (at-most-join (u .0) (u .2))
+      go true j e1 e2 = one-empty (grind (arith, tells)) (grind (arith, tells)) k (limit-empty e1)
+      go false true e1 e2 = one-empty (grind (arith, tells)) (grind (arith, tells)) k (joined-empty e1 e2)
       go false false e1 e2 =
           let meant : (not (is-limit (c .kind) || eqb (c .kind) coalesce-partitions)) ≡ true = grind (arith, tells) in
           let all = subst (λ b. empty-of a (c .kind) (c .parameter) b ≡ true) (empties-all fs) k in
           subst (At-most 0) (sym (made-meant m c os e1 e2)) (rules .at (c .kind) (c .parameter) .empty meant (c .mark) (c .hint) os (empties fs) fit (trues-length fs os h) (trues-known fs os h) all)
+
+  -- a projection over one child
+  projected-true : c .kind ≡ projection → (f : Fact) (o : Partitions) → fs ≡ f ∷ [] → os ≡ o ∷ [] → True-of (f .rows) o → True-of (head-fact fs .rows) (node-rows m c os)
+  projected-true k4 f o ef eo t =
+      let lim : is-limit (c .kind) ≡ false = grind (arith, tells) in
+      let not5 : eqb (c .kind) coalesce-partitions ≡ false = grind (arith, tells) in
+      let r = rules .at (c .kind) (c .parameter) .each-row (grind (arith, tells)) (c .mark) (c .hint) in
+      let g = r .0 (map length os) in
+      let at : made m c os ≡ each (λ i. map (g i)) 0 o = made-meant m c os lim not5 ∙ r .1 os fit ∙ ap (λ z. each (λ i. map (g i)) 0 (concat z)) eo ∙ ap (each (λ i. map (g i)) 0) (concat-one o) in
+      subst (λ z. True-of (head-fact z .rows) (node-rows m c os)) (sym ef)
+      (true-cut (f .rows) (c .fetch) (made m c os) (subst (True-of (f .rows)) (sym at) (true-rows (f .rows) g o t)))
 
   pub node-true : True-of (own-fact a c fs .rows) (node-rows m c os)
   node-true = go (eqb (c .kind) placeholder-row) (eqb (c .kind) projection) (empty-of a (c .kind) (c .parameter) (together fs .empty)) refl refl refl
@@ -186,15 +201,9 @@ module _ (a : Answers) (m : Meaning) (rules : Rules a m) (c : Cell) (fs : List F
           let at : made m c os ≡ (r .0 ∷ []) ∷ [] = made-meant m c os lim not5 ∙ ap (m (c .kind) (c .parameter) (c .mark) (c .hint)) (nil-from-length os childless) ∙ r .1 in
           true-cut OneRow (c .fetch) (made m c os) (subst (At-most 1) (sym at) refl)
       go false true e e1 e2 e3 =
-          let k4 : c .kind ≡ 4 = eqb-true (c .kind) 4 e2 in
-          let lim : is-limit (c .kind) ≡ false = grind (arith, tells) in
-          let not5 : eqb (c .kind) coalesce-partitions ≡ false = grind (arith, tells) in
+          let k4 : c .kind ≡ projection = eqb-true (c .kind) projection e2 in
           let u = only fs os h (kind-one a (c .kind) (c .parameter) (length os) fit (omega arith) (omega arith)) in
-          let r = rules .at (c .kind) (c .parameter) .each-row (grind (arith, tells)) (c .mark) (c .hint) in
-          let f = r .0 (map length os) in
-          let at : made m c os ≡ each (λ i. map (f i)) 0 (u .1) = made-meant m c os lim not5 ∙ r .1 os fit ∙ ap (λ z. each (λ i. map (f i)) 0 (concat z)) (u .3) ∙ ap (each (λ i. map (f i)) 0) (concat-one (u .1)) in
-          subst (λ z. True-of (head-fact z .rows) (node-rows m c os)) (sym (u .2))
-          (true-cut (u .0 .rows) (c .fetch) (made m c os) (subst (True-of (u .0 .rows)) (sym at) (true-rows (u .0 .rows) f (u .1) (u .4))))
+          projected-true k4 (u .0) (u .1) (u .2) (u .3) (u .4)
       go false false true e1 e2 e3 = true-cut NoRow (c .fetch) (made m c os) (empty-made e3)
       go false false false e1 e2 e3 = tt
 

@@ -2,9 +2,9 @@
 use mathlib.Core.Path.{_≡_, refl, sym, ap, subst, _∙_}
 use mathlib.Core.Bool.{Bool, true, false, cond, _&&_, _||_, not}
 use mathlib.Core.List.{List, [], _∷_, _++_, append-assoc}
-use Prim.Native.Nat.{ℕ, zero, suc, _+_, _-_, _*_, _≤_, _<_, min}
+use Prim.Native.Nat.{ℕ, _+_, _-_, _*_, _≤_, min}
 use native.Mathlib.Omega.{arith}
-use lib.Dec.{eqb, leb, ltb}
+use lib.Dec.{eqb, ltb}
 use lib.ListN.{length, replicate}
 use Rattle.std.specs.Options.{isSome}
 use Rattle.std.specs.Vec.{listOf}
@@ -19,13 +19,18 @@ use Rattle.operators.specs.Answers.{Answers}
 use Rattle.operators.specs.Questions.{passes-limits, takes-fetch, takes-mark}
 use Rattle.checks.specs.declared.facts.Fact.{Fact}
 use Rattle.checks.specs.Facts.{head-fact, fact-of, facts}
+use Rattle.rows.specs.Grow.{with-fetch}
 use Rattle.sinks.specs.declared.requirements.GlobalRequirements.{GlobalRequirements}
 use Rattle.sinks.specs.declared.requirements.Visited.{Visited}
-use Rattle.sinks.specs.Sink.{combined-fetch, past-limit, past-fetch, new-global, new-local, only-if, with-fetch, onward, satisfied-to, stayed, skipped-by, skipped, gathered, fetched, limit-over, limited, fetching-by, combines-partitions, visited-by, visited, again-by, settled, step-by, step, sunk, total-of, sum-by}
+use Rattle.sinks.specs.Sink.{combined-fetch, past-limit, past-fetch, new-global, new-local, only-if, with-mark, satisfied-to, skipped-by, gathered, fetched, limit-over, limited, fetching-by, combines-partitions, visited-by, visited, again-by, settled, step-by, step, sunk}
 
 -- the cells in a node's place, before those behind it
 abbrev pub put : Visited → List Cell → List Cell
 put v rest = listOf (v .above) ++ v .node ∷ rest
+
+-- a node with another fetch and mark
+abbrev pub renewed : Cell → ℕ → Bool → Cell
+renewed c n b = with-fetch (with-mark c b) (Some n)
 
 -- a node's own fetch leaves the skip, and combines
 pub own-skip : (r : GlobalRequirements) (f : Option ℕ) → past-fetch r f .skip ≡ r .skip
@@ -65,21 +70,21 @@ module _ (a : Answers) (partitions : ℕ) where
     gathered-steady : (n : ℕ) → combines-partitions (c .kind) ≡ true → Steady (gathered r c n)
     gathered-steady n e =
         let total = n + r .skip in
-        let node = with-fetch c total (c .mark) in
+        let node = renewed c total (c .mark) in
         let own = past-fetch (satisfied-to r (Some total)) (Some total) in
         let same : min total (total - 0) + (0 + 0) ≡ total = omega arith in
         ap (λ x. fetching-by x (passes-limits a (c .kind) (c .parameter)) (takes-fetch a (c .kind) (c .parameter)) a own node partitions (min total (total - 0))) e
-        ∙ (λ i. record { above = None; node = with-fetch c (same i) (c .mark); next = satisfied-to r (Some (same i)) })
+        ∙ (λ i. record { above = None; node = renewed c (same i) (c .mark); next = satisfied-to r (Some (same i)) })
 
     fetched-steady : (n : ℕ) → combines-partitions (c .kind) ≡ false → passes-limits a (c .kind) (c .parameter) ≡ false → takes-fetch a (c .kind) (c .parameter) ≡ true → Steady (fetched a r c n)
     fetched-steady n e1 e2 e3 =
         let total = n + r .skip in
         let b = takes-mark a (c .kind) (c .parameter) in
-        let node = with-fetch c total (cond b (r .«preserve_order») (c .mark)) in
+        let node = renewed c total (cond b (r .«preserve_order») (c .mark)) in
         let own = past-fetch (satisfied-to r None) (Some total) in
         let same : (total - 0) + (0 + 0) ≡ total = omega arith in
         (λ i. fetching-by (e1 i) (e2 i) (e3 i) a own node partitions (total - 0))
-        ∙ (λ i. record { above = None; node = with-fetch c (same i) (twice b (r .«preserve_order») (c .mark) i); next = satisfied-to r None })
+        ∙ (λ i. record { above = None; node = renewed c (same i) (twice b (r .«preserve_order») (c .mark) i); next = satisfied-to r None })
       where
         twice : (b o m : Bool) → cond b o (cond b o m) ≡ cond b o m
         twice true o m = refl
@@ -149,7 +154,7 @@ abbrev pub mark-taken : Answers → Cell → Bool → Type 0
 mark-taken a c b = (not b || takes-mark a (c .kind) (c .parameter)) ≡ true
 
 -- what holds of the node itself
-module _ (a : Answers) (c : Cell) (Q : Cell → Type 0) (same : Q c) (other : (n : ℕ) (b : Bool) → takes-fetch a (c .kind) (c .parameter) ≡ true → (mark-taken a c (c .mark) → mark-taken a c b) → Q (with-fetch c n b)) where
+module _ (a : Answers) (c : Cell) (Q : Cell → Type 0) (same : Q c) (other : (n : ℕ) (b : Bool) → takes-fetch a (c .kind) (c .parameter) ≡ true → (mark-taken a c (c .mark) → mark-taken a c b) → Q (renewed c n b)) where
   mark-fits : (b o x : Bool) → (not x || b) ≡ true → (not (cond b o x) || b) ≡ true
   mark-fits true true x h = refl
   mark-fits true false x h = refl
@@ -172,36 +177,38 @@ module _ (a : Answers) (c : Cell) (Q : Cell → Type 0) (same : Q c) (other : (n
   pub visited-node : (r : GlobalRequirements) (partitions : ℕ) → Q (visited a r c partitions .node)
   visited-node r partitions = let own = past-fetch r (c .fetch) in visited-node-by own partitions (own .fetch)
 
+-- a step at a limit, and at any other node
+pub step-limit : (a : Answers) (r : GlobalRequirements) (c : Cell) (fs : List Fact) → is-limit (c .kind) ≡ true → step a r c fs ≡ ([], past-limit r c (head-fact fs))
+step-limit a r c fs e = ap (λ b. step-by b a r c fs) e
+
+pub step-node : (a : Answers) (r : GlobalRequirements) (c : Cell) (fs : List Fact) → is-limit (c .kind) ≡ false → let v = visited a r c (fact-of a c fs .partitions) in step a r c fs ≡ (put v [], v .next)
+step-node a r c fs e = ap (λ b. step-by b a r c fs) e ∙ visited-again a (fact-of a c fs .partitions) r c
+
 module _ (a : Answers) (r : GlobalRequirements) (rs : List GlobalRequirements) (c : Cell) (cs : List Cell) where
-  -- at a limit
   pub sunk-limit : is-limit (c .kind) ≡ true → sunk a (r ∷ rs) (c ∷ cs) ≡ sunk a (replicate (c .children) (past-limit r c (head-fact (facts a cs))) ++ rs) cs
   unfolding sunk
-  sunk-limit e = ap (λ b. let done = step-by b a r c (facts a cs) in done .0 ++ sunk a (replicate (c .children) (done .1) ++ rs) cs) e
+  sunk-limit e = ap (λ done. done .0 ++ sunk a (replicate (c .children) (done .1) ++ rs) cs) (step-limit a r c (facts a cs) e)
 
-  -- at any other node
   pub sunk-node : is-limit (c .kind) ≡ false → let v = visited a r c (fact-of a c (facts a cs) .partitions) in sunk a (r ∷ rs) (c ∷ cs) ≡ put v (sunk a (replicate (c .children) (v .next) ++ rs) cs)
   unfolding sunk
   sunk-node e =
-      let parts = fact-of a c (facts a cs) .partitions in
-      let v = visited a r c parts in
-      ap (λ b. let done = step-by b a r c (facts a cs) in done .0 ++ sunk a (replicate (c .children) (done .1) ++ rs) cs) e
-      ∙ ap (λ done. done .0 ++ sunk a (replicate (c .children) (done .1) ++ rs) cs) (visited-again a parts r c)
+      let v = visited a r c (fact-of a c (facts a cs) .partitions) in
+      ap (λ done. done .0 ++ sunk a (replicate (c .children) (done .1) ++ rs) cs) (step-node a r c (facts a cs) e)
       ∙ append-assoc (listOf (v .above)) (v .node ∷ []) (sunk a (replicate (c .children) (v .next) ++ rs) cs)
 
 -- no cell gives more than two
 step-length : (a : Answers) (r : GlobalRequirements) (c : Cell) (fs : List Fact) → length (step a r c fs .0) ≤ 2
-step-length a r c fs = go (is-limit (c .kind))
+step-length a r c fs = go (is-limit (c .kind)) refl
   where
     few : (o : Option Cell) (d : Cell) → length (listOf o ++ d ∷ []) ≤ 2
     few None d = omega arith
     few (Some l) d = omega arith
 
-    go : (b : Bool) → length (step-by b a r c fs .0) ≤ 2
-    go true = omega arith
-    go false =
-        let parts = fact-of a c fs .partitions in
-        let v = visited a r c parts in
-        subst (λ s. length (s .0) ≤ 2) (sym (visited-again a parts r c)) (few (v .above) (v .node))
+    go : (b : Bool) → is-limit (c .kind) ≡ b → length (step a r c fs .0) ≤ 2
+    go true e = subst (λ s. length (s .0) ≤ 2) (sym (step-limit a r c fs e)) (omega arith)
+    go false e =
+        let v = visited a r c (fact-of a c fs .partitions) in
+        subst (λ s. length (s .0) ≤ 2) (sym (step-node a r c fs e)) (few (v .above) (v .node))
 
 pub sunk-length : (a : Answers) (cs : List Cell) (rs : List GlobalRequirements) → length (sunk a rs cs) ≤ 2 * length cs
 unfolding sunk

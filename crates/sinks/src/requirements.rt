@@ -8,7 +8,7 @@ pub struct GlobalRequirements {
     pub skip: u64,
     /// How many rows suffice behind those, if they are limited.
     pub fetch: Option<u64>,
-    /// Whether what stands above keeps no other rows already.
+    /// Whether what stands above keeps the limit already, so that none has to be added.
     pub satisfied: bool,
     /// The mark of the last limit that was taken out.
     pub preserve_order: bool,

@@ -1,2 +1,4 @@
 mod Spreads
+mod Steps
+mod Turns
 mod Writes

@@ -12,13 +12,13 @@ use Rattle.checks.specs.Accepts.{count-answer, room-answer, plan-answer}
 use Rattle.checks.specs.Windows.{windows-answer}
 use Rattle.rows.specs.Grow.{grown-plan, grow-sums}
 use Rattle.rows.specs.Hint.{hinted-plan, hint-sums}
-use Rattle.sinks.specs.Sink.{at-first, sunk, sunk-sums}
+use Rattle.sinks.specs.Sink.{sunk-plan, sink-sums}
 use Rattle.limits.specs.declared.rules.Rule.{Rule}
 use Rattle.limits.specs.declared.rules.Rule.the-variants.{Sink, Grow, Hint}
 
 -- the cells that a rule leaves of an accepted plan, or its own refusal
 abbrev pub rule-answer : Answers → Rule → List Cell → Result (List Cell) Fault
-rule-answer a Sink cells = then (sunk-sums a (at-first ∷ []) 0 cells) (λ _. Ok (sunk a (at-first ∷ []) cells))
+rule-answer a Sink cells = then (sink-sums a cells) (λ _. Ok (sunk-plan a cells))
 rule-answer a Grow cells = then (windows-answer a cells) (λ _. then (grow-sums a cells) (λ _. Ok (grown-plan a cells)))
 rule-answer a Hint cells = then (hint-sums cells) (λ _. Ok (hinted-plan a cells))
 

@@ -1,18 +1,27 @@
 // Sink: limits go down a plan as far as they can.
 ghost use mathlib.Core.Path.{_≡_};
-ghost use mathlib.Core.Bool.{cond};
+ghost use mathlib.Core.Bool.{false};
 ghost use Prim.Native.Nat.{_+_, _*_, _^_, _<_, _≤_};
-ghost use lib.Dec.{ltb};
-ghost use lib.ListN.{length};
-ghost use Rattle.std.specs.Vec.{made};
+ghost use mathlib.Core.List.{[], _∷_, _++_};
+ghost use lib.ListN.{length, take};
+ghost use Rattle.std.specs.Vec.{made, listOf};
 ghost use Rattle.std.specs.declared.option.Option.the-variants.{Some};
 ghost use Rattle.std.specs.declared.result.Result.the-variants.{Ok};
 ghost use Rattle.plan.specs.Kinds.{is-limit};
 ghost use Rattle.plan.specs.Numbers.{max-number};
-ghost use Rattle.plan.specs.Refusals.{refused-at, then};
-ghost use Rattle.plan.specs.declared.refusals.Refusal.the-variants.{Sum};
-ghost use Rattle.sinks.specs.Sink.{combined, known-within, past-limit, past-fetch, only-if, new-global, new-local, onward, satisfied-to, skipped, gathered, fetched, limited, visited-by, visited, total-of, sum-by};
+ghost use Rattle.plan.specs.Refusals.{then};
+ghost use Rattle.plan.specs.Stacks.{content};
+ghost use Rattle.checks.specs.Accepts.{Accepted};
+ghost use Rattle.checks.specs.Facts.{head-fact, every-fact};
+ghost use Rattle.rows.specs.Sums.{too-large};
+ghost use Rattle.sinks.specs.Sink.{combined, known-within, past-limit, past-fetch, only-if, new-global, new-local, onward, satisfied-to, skipped, gathered, fetched, limited, visited-by, total-of, sink-sum};
+ghost use Rattle.limits.specs.Sums.{sum-answer};
+ghost use Rattle.limits.specs.Calls.{rule-answer, front-of};
+ghost use Rattle.limits.specs.declared.rules.Rule.the-variants.{Sink};
 ghost use Rattle.limits.specs.Pending.{In-range, node-stepped, stepped};
+use crate::pending::Pending;
+use crate::pending::hand_down;
+use crate::pending::next_requirement;
 use crate::sums::sum_at;
 use checks::Fact;
 use checks::KnownRows;
@@ -23,6 +32,7 @@ use operators::takes_mark;
 use plan::Cell;
 use plan::Fault;
 use plan::Kind;
+use plan::Stack;
 use sinks::GlobalRequirements;
 use sinks::Visited;
 
@@ -223,7 +233,7 @@ fn visit<O: OperatorSet>(
     cell: &Cell,
     partitions: u64,
 ) -> Visited
-    requires { ⌜ total-of pending (pending .fetch) < 2 ^ 64 ⌝ }
+    requires { ⌜ too-large (total-of pending (pending .fetch)) ≡ false ⌝ }
     ensures { λ r. ⌜ r ≡ visited-by (O·OperatorSet .answers (now (set .entry))) pending (now (cell .entry)) partitions (pending .fetch) ⌝ }
 {
     let Some(fetch) = pending.fetch else {
@@ -243,7 +253,7 @@ fn visit<O: OperatorSet>(
 
 /// The sum of fetch and skip is formed while a fetch is pending.
 fn total_at(place: usize, pending: GlobalRequirements) -> Result<(), Fault>
-    ensures { λ r. ⌜ r ≡ cond (ltb max-number (total-of pending (pending .fetch))) (refused-at Sum place) (Ok tt) ⌝ }
+    ensures { λ r. ⌜ r ≡ sum-answer place (total-of pending (pending .fetch)) ⌝ }
 {
     if let Some(fetch) = pending.fetch {
         sum_at(place, fetch, pending.skip)?;
@@ -259,7 +269,7 @@ fn visit_node<O: OperatorSet>(
     partitions: u64,
     place: usize,
 ) -> Result<Stepped, Fault>
-    ensures { λ r. ⌜ r ≡ cond (ltb max-number (total-of pending (pending .fetch))) (refused-at Sum place) (Ok (node-stepped (visited-by (O·OperatorSet .answers (now (set .entry))) pending (now (cell .entry)) partitions (pending .fetch)))) ⌝ }
+    ensures { λ r. ⌜ r ≡ then (sum-answer place (total-of pending (pending .fetch))) (λ _. Ok (node-stepped (visited-by (O·OperatorSet .answers (now (set .entry))) pending (now (cell .entry)) partitions (pending .fetch)))) ⌝ }
 {
     total_at(place, pending)?;
     let Visited { above, node, next } = visit(set, pending, cell, partitions);
@@ -287,7 +297,7 @@ fn step<O: OperatorSet>(
 ) -> Result<Stepped, Fault>
     requires pending { ⌜ In-range pending ⌝ }
     requires cell { ⌜ now cell .skip ≤ max-number ⌝ }
-    ensures { λ r. ⌜ r ≡ cond (ltb max-number (sum-by (is-limit (now (cell .entry) .kind)) pending (now (cell .entry)))) (refused-at Sum place) (Ok (stepped (O·OperatorSet .answers (now (set .entry))) pending (now (cell .entry)) (own .partitions) child)) ⌝ }
+    ensures { λ r. ⌜ r ≡ then (sum-answer place (sink-sum pending (now (cell .entry)))) (λ _. Ok (stepped (O·OperatorSet .answers (now (set .entry))) pending (now (cell .entry)) (own .partitions) child)) ⌝ }
 {
     if is_limit(cell.kind) {
         sum_at(place, pending.skip, cell.skip)?;
@@ -299,4 +309,70 @@ fn step<O: OperatorSet>(
     }
     let pending = past_fetch(pending, cell.fetch);
     visit_node(set, pending, cell, own.partitions, place)
+}
+
+/// Writes a cell, if there is one, behind the first `count` of the work table.
+fn put(work: &mut [Cell], count: usize, cell: Option<Cell>) -> usize
+    requires { ⌜ count < length (now work) ⌝ }
+    ensures count { λ r. ⌜ r ≡ count + length (listOf cell) ⌝ }
+    ensures cells { λ r. ⌜ take r (now (work .exit)) ≡ take count (now (work .entry)) ++ listOf cell ⌝ }
+{
+    match cell {
+        Some(cell) => {
+            work[count] = cell;
+            count + 1
+        }
+        None => count,
+    }
+}
+
+/// Takes the fact of the next subtree off.
+fn next_fact(known: &mut Stack<Fact>) -> Fact
+    requires { ⌜ 0 < length (content (now known)) ⌝ }
+    ensures { λ r. ⌜ content (now (known .entry)) ≡ r ∷ content (now (known .exit)) ⌝ }
+{
+    known.pop().unwrap_or(Fact::BLANK)
+}
+
+/// The fact of the subtree behind it, which is its first child's.
+fn first_fact(known: &Stack<Fact>) -> Fact
+    ensures { λ r. ⌜ r ≡ head-fact (content (now (known .entry))) ⌝ }
+{
+    known.peek(0).unwrap_or(Fact::BLANK)
+}
+
+/// Writes the sunk plan over the front of the work table. The facts of its cells are on the fact stack.
+pub(super) fn sink_cells<O: OperatorSet>(
+    set: &O,
+    cells: &[Cell],
+    work: &mut [Cell],
+    pending: &mut Stack<Pending>,
+    known: &mut Stack<Fact>,
+) -> Result<usize, Fault>
+    requires accepted { ⌜ Accepted (O·OperatorSet .answers (now set)) (now cells) ⌝ }
+    requires work { ⌜ 2 * length (now cells) ≤ length (now work) ⌝ }
+    requires pending { ⌜ content (now pending) ≡ [] ⌝ }
+    requires room { ⌜ length (now cells) ≤ length (now (now pending .items)) ⌝ }
+    requires facts { ⌜ content (now known) ≡ every-fact (O·OperatorSet .answers (now set)) (now cells) ⌝ }
+    ensures answer { λ r. ⌜ front-of (now (work .exit)) r ≡ rule-answer (O·OperatorSet .answers (now (set .entry))) Sink (now (cells .entry)) ⌝ }
+    ensures few { λ r. ⌜ made r (λ n. n ≤ 2 * length (now (cells .entry))) ⌝ }
+{
+    hand_down(pending, GlobalRequirements::FIRST, 1);
+    let mut count = 0;
+    for (place, cell) in cells.iter().enumerate() {
+        let requirement = next_requirement(pending);
+        let own = next_fact(known);
+        let Stepped { above, node, next } = step(
+            set,
+            requirement,
+            cell,
+            own,
+            first_fact(known),
+            place,
+        )?;
+        count = put(work, count, above);
+        count = put(work, count, node);
+        hand_down(pending, next, cell.children);
+    }
+    Ok(count)
 }

@@ -1,0 +1,77 @@
+use mathlib.Core.Path.{_≡_, refl, sym, ap, subst, _∙_}
+use mathlib.Core.List.{List, [], _∷_, _++_}
+use Prim.Native.Nat.{ℕ, _+_, _-_, _*_, _<_, _≤_}
+use native.Mathlib.Omega.{arith}
+use lib.ListN.{length, take, drop, getD, replicate}
+use Rattle.std.proofs.shelf.Lists.{length-drop}
+use Rattle.plan.specs.declared.cells.Cell.{Cell}
+use Rattle.plan.specs.Cells.{blank}
+use Rattle.plan.specs.Stacks.{content, room}
+use Rattle.checks.specs.declared.facts.Fact.{Fact}
+use Rattle.checks.specs.Facts.{every-fact}
+use Rattle.checks.proofs.Subtrees.{length-every}
+use Rattle.checks.proofs.Walks.{cells-more, cells-all}
+use Rattle.rows.proofs.Passed.{Trees, passed}
+use Rattle.sinks.specs.declared.requirements.GlobalRequirements.{GlobalRequirements}
+use Rattle.sinks.specs.Sink.{at-first, sunk, sink-sums-from}
+use Rattle.limits.specs.declared.pending.Pending.{Pending}
+use Rattle.limits.specs.Pending.{spread, Live}
+use Rattle.limits.proofs.Steps.{sunk-more, sums-more, range-stepped, fields-at, trees-within, spread-within, spread-some, room-left, trees-next}
+use Rattle.limits.proofs.limit_pushdown.sink_cells.Needs as need
+
+pub hand-down-requires : need.hand-down-requires
+hand-down-requires g c κs =
+    let cells = c .args .cells .now in
+    let some = trees-within cells 1 (passed (g .O·OperatorSet .answers (c .args .set .now)) cells (c .pre .accepted) .tree) in
+    let free = room-left (c .args .pending .now) in
+    let none = ap length (c .pre .pending) in
+    let enough = c .pre .room in
+    record { live = subst Live (sym (c .pre .pending)) tt; small = (omega arith, tt); room = λ h. omega arith }
+
+pub loop-place-holds : need.loop-place-holds
+loop-place-holds g c =
+    let a = g .O·OperatorSet .answers (c .args .set .now) in
+    let cells = c .args .cells .now in
+    let first : spread (content (c .hand-down .last .pending)) ≡ at-first ∷ [] = c .hand-down .ensures .given ∙ ap (λ (ps : List Pending). at-first ∷ spread ps) (c .pre .pending) in (
+      refl,
+      c .hand-down .ensures .live,
+      subst (λ (rs : List GlobalRequirements). Trees (length rs) cells) (sym first) (passed a cells (c .pre .accepted) .tree),
+      c .pre .facts,
+      omega arith,
+      ap (λ (rs : List GlobalRequirements). sunk a rs cells) first,
+      ap (λ (rs : List GlobalRequirements). sink-sums-from a rs 0 cells) first,
+    )
+
+pub next-requirement-requirement-requires : need.next-requirement-requirement-requires
+next-requirement-requirement-requires g c κs =
+    let ps = content (c .loop-place .pending) in
+    let t = trees-next (c .args .cells .now) (c .loop-place .place) (length (spread ps)) (c .loop-place-test .taken) (c .loop-place .inv .2) in
+    record { live = c .loop-place .inv .1; some = spread-some ps (t .0) }
+
+pub next-fact-own-requires : need.next-fact-own-requires
+next-fact-own-requires g c κs =
+    let a = g .O·OperatorSet .answers (c .args .set .now) in
+    let rest = drop (c .loop-place .place) (c .args .cells .now) in
+    let held = ap length (c .loop-place .inv .3) in
+    let count = length-every a rest in
+    let left = length-drop (c .loop-place .place) (c .args .cells .now) in
+    omega arith
+
+pub step-requires : need.step-requires
+step-requires g c κs =
+    let a = g .O·OperatorSet .answers (c .args .set .now) in
+    let cells = c .args .cells .now in
+    record { pending = c .next-requirement-requirement .ensures .small; cell = fields-at a cells (c .loop-place .place) (passed a cells (c .pre .accepted) .fields) (c .loop-place-test .taken) .0 }
+
+pub returns-in-Break-above : need.returns-in-Break-above
+returns-in-Break-above g c = ?
+
+pub hand-down-requires-in-loop-place : need.hand-down-requires-in-loop-place
+hand-down-requires-in-loop-place g c κs = ?
+
+pub loop-place-again : need.loop-place-again
+loop-place-again g c = ?
+
+pub returns : need.returns
+unfolding sunk sink-sums-from
+returns g c = ?

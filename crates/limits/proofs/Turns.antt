@@ -29,11 +29,14 @@ use Rattle.limits.specs.Pending.{In-range, fetch-in-range, stepped, cells-of}
 use Rattle.limits.specs.Sums.{sum-answer}
 use Rattle.limits.proofs.Steps.{sunk-more, sums-more, range-stepped, trees-next}
 
-refused-by : (b : Bool) (p : ℕ) (s : Stepped) (rest : Result (Unit {0}) Fault) (f : Fault) → then (cond b (refused-at Sum p) (Ok tt)) (λ _. Ok s) ≡ Err f → cond b (refused-at Sum p) rest ≡ Err f
+abbrev refusing : Bool → ℕ → Result (Unit {0}) Fault
+refusing b p = cond b (refused-at Sum p) (Ok tt)
+
+refused-by : (b : Bool) (p : ℕ) (s : Stepped) (rest : Result (Unit {0}) Fault) (f : Fault) → then (refusing b p) (λ _. Ok s) ≡ Err f → cond b (refused-at Sum p) rest ≡ Err f
 refused-by true p s rest f e = let is : _≡_ {A = Fault} (record { refusal = Sum; place = p }) f = cc in ap Err is
 refused-by false p s rest f e = absurd (let z : _≡_ {A = ℕ} 0 1 = cc in omega arith)
 
-granted-by : (b : Bool) (p : ℕ) (s t : Stepped) → then (cond b (refused-at Sum p) (Ok tt)) (λ _. Ok s) ≡ Ok t → (b ≡ false) × (t ≡ s)
+granted-by : (b : Bool) (p : ℕ) (s t : Stepped) → then (refusing b p) (λ _. Ok s) ≡ Ok t → (b ≡ false) × (t ≡ s)
 granted-by true p s t e = absurd (let z : _≡_ {A = ℕ} 0 1 = cc in omega arith)
 granted-by false p s t e = (refl, cc)
 

@@ -181,8 +181,8 @@ module _ (a : Answers) where
       go p h None e out = absurd (false≢true out)
       go p h (Some g) e out =
           let l : need-of (c .skip) g ≤ h = grind (arith, tells) in
-          let t = combined-need (r .skip) (r .fetch) (c .skip) g h l in
-          inr ((λ k. unmet (head-fact fs .rows) (combined-fetch (r .skip) (r .fetch) (c .fetch)) (eqb (r .skip + c .skip) 0 && eqb (head-fact fs .partitions) 1) k), (t .0, ap (combined-fetch (r .skip) (r .fetch)) e ∙ t .1, t .2))
+          let known = λ (k : head-fact fs .rows ≡ Unknown). unmet (head-fact fs .rows) (combined-fetch (r .skip) (r .fetch) (c .fetch)) (eqb (r .skip + c .skip) 0 && eqb (head-fact fs .partitions) 1) k in
+          inr (known, subst (λ o. (n : ℕ) × (combined-fetch (r .skip) (r .fetch) o ≡ Some n) × (need-of (r .skip + c .skip) n ≤ h)) (sym e) (combined-need (r .skip) (r .fetch) (c .skip) g h l))
 
   node-hints : (r : GlobalRequirements) (rs : List GlobalRequirements) (c : Cell) (cs : List Cell) (t u : Option Cell) → fit-cell a c ≡ true → fields-cell a c ≡ true → hint-cell a t c (c .hint) ≡ true → Handing t u (r ∷ rs) (facts a (c ∷ cs)) → ((qs : List GlobalRequirements) (w : Option Cell) → Handing (Some c) w qs (facts a cs) → Hints a w (sunk a qs cs)) → Hints a u (sunk a (r ∷ rs) (c ∷ cs))
   unfolding facts

@@ -158,6 +158,10 @@ module _ (a : Answers) where
     visited-counts None = skipped-counts (ltb 0 (r .skip) && not (r .satisfied)) refl
     visited-counts (Some n) = fetching-counts (combines-partitions (c .kind)) (passes-limits a (c .kind) (c .parameter)) (takes-fetch a (c .kind) (c .parameter)) n
 
+  -- with the subtrees behind it
+  counts-join : (r : GlobalRequirements) (rs : List GlobalRequirements) (f : Fact) (fs gs : List Fact) (cells : List Cell) → Counts cells gs (f .partitions) → Sames rs fs gs → Sames (r ∷ rs) (f ∷ fs) (facts a cells) × Counted a cells
+  counts-join r rs f fs gs cells h same = (subst (λ z. Sames (r ∷ rs) (f ∷ fs) z) (sym (h .1)) (h .2, same), h .3)
+
   -- a limit has as many partitions as its child
   limit-parts : (c : Cell) (n : ℕ) → is-limit (c .kind) ≡ true → Over-one c n → partitions-of a (c .kind) (c .parameter) (n + 0) ≡ n
   limit-parts c n lim h = grind (arith, tells)
@@ -260,7 +264,7 @@ module _ (a : Answers) (shown : Answer-rules a) where
           let parts = sames-split k (v .next) rs (facts a cs) (facts a rest) (below .0) in
           let new = visited-counts a c T rest e (parts .0) (below .1) (here .0) (here .1) own alone (own .fetch) in
           subst (λ z. Sames (r ∷ rs) (facts a (c ∷ cs)) (facts a z) × Counted a z) (sym (sunk-node a r rs c cs e))
-          (subst (λ z. Sames (r ∷ rs) (facts a (c ∷ cs)) z) (sym (new .1)) (new .2, parts .1), new .3)
+          (counts-join a r rs (fact-of a c (facts a cs)) (drop k (facts a cs)) (drop k (facts a rest)) (put v rest) new (parts .1))
 
   sunk-counted : (cs : List Cell) (rs : List GlobalRequirements) → Trees (length rs) cs → Fit a cs → All (λ c. placed-cell c ≡ true) cs → Counted a cs → Singles rs (facts a cs) → All-counted cs rs
   unfolding sunk

@@ -177,16 +177,20 @@ module _ (a : Answers) (m : Meaning) (rules : Rules a m) (c : Cell) (fs : List F
           let all = subst (λ b. empty-of a (c .kind) (c .parameter) b ≡ true) (empties-all fs) k in
           subst (At-most 0) (sym (made-meant m c os e1 e2)) (rules .at (c .kind) (c .parameter) .empty meant (c .mark) (c .hint) os (empties fs) fit (trues-length fs os h) (trues-known fs os h) all)
 
-  -- a projection over one child
-  projected-true : c .kind ≡ projection → (f : Fact) (o : Partitions) → fs ≡ f ∷ [] → os ≡ o ∷ [] → True-of (f .rows) o → True-of (head-fact fs .rows) (node-rows m c os)
-  projected-true k4 f o ef eo t =
-      let lim : is-limit (c .kind) ≡ false = grind (arith, tells) in
-      let not5 : eqb (c .kind) coalesce-partitions ≡ false = grind (arith, tells) in
-      let r = rules .at (c .kind) (c .parameter) .each-row (grind (arith, tells)) (c .mark) (c .hint) in
-      let g = r .0 (map length os) in
-      let at : made m c os ≡ each (λ i. map (g i)) 0 o = made-meant m c os lim not5 ∙ r .1 os fit ∙ ap (λ z. each (λ i. map (g i)) 0 (concat z)) eo ∙ ap (each (λ i. map (g i)) 0) (concat-one o) in
+  -- what the meaning makes
+  abbrev Meant : List Partitions → Partitions
+  Meant = m (c .kind) (c .parameter) (c .mark) (c .hint)
+
+  -- each row from the row at its place, over one child
+  by-row-true : made m c os ≡ Meant os → (g : ℕ → Row → Row) → Meant os ≡ each (λ i. map (g i)) 0 (concat os) → (f : Fact) (o : Partitions) → fs ≡ f ∷ [] → os ≡ o ∷ [] → True-of (f .rows) o → True-of (head-fact fs .rows) (node-rows m c os)
+  by-row-true meant g e f o ef eo t =
+      let at : made m c os ≡ each (λ i. map (g i)) 0 o = meant ∙ e ∙ ap (λ z. each (λ i. map (g i)) 0 (concat z)) eo ∙ ap (each (λ i. map (g i)) 0) (concat-one o) in
       subst (λ z. True-of (head-fact z .rows) (node-rows m c os)) (sym ef)
       (true-cut (f .rows) (c .fetch) (made m c os) (subst (True-of (f .rows)) (sym at) (true-rows (f .rows) g o t)))
+
+  -- one row, with no child
+  one-row-true : made m c os ≡ Meant os → (x : Row) → Meant [] ≡ (x ∷ []) ∷ [] → os ≡ [] → At-most 1 (made m c os)
+  one-row-true meant x e none = subst (At-most 1) (sym (meant ∙ ap Meant none ∙ e)) refl
 
   pub node-true : True-of (own-fact a c fs .rows) (node-rows m c os)
   node-true = go (eqb (c .kind) placeholder-row) (eqb (c .kind) projection) (empty-of a (c .kind) (c .parameter) (together fs .empty)) refl refl refl
@@ -198,12 +202,14 @@ module _ (a : Answers) (m : Meaning) (rules : Rules a m) (c : Cell) (fs : List F
           let lim : is-limit (c .kind) ≡ false = grind (arith, tells) in
           let not5 : eqb (c .kind) coalesce-partitions ≡ false = grind (arith, tells) in
           let r = rules .at (c .kind) (c .parameter) .one-row k1 (c .mark) (c .hint) (subst (λ n. fits-of a (c .kind) (c .parameter) n ≡ true) childless fit) in
-          let at : made m c os ≡ (r .0 ∷ []) ∷ [] = made-meant m c os lim not5 ∙ ap (m (c .kind) (c .parameter) (c .mark) (c .hint)) (nil-from-length os childless) ∙ r .1 in
-          true-cut OneRow (c .fetch) (made m c os) (subst (At-most 1) (sym at) refl)
+          true-cut OneRow (c .fetch) (made m c os) (one-row-true (made-meant m c os lim not5) (r .0) (r .1) (nil-from-length os childless))
       go false true e e1 e2 e3 =
           let k4 : c .kind ≡ projection = eqb-true (c .kind) projection e2 in
+          let lim : is-limit (c .kind) ≡ false = grind (arith, tells) in
+          let not5 : eqb (c .kind) coalesce-partitions ≡ false = grind (arith, tells) in
+          let r = rules .at (c .kind) (c .parameter) .each-row (grind (arith, tells)) (c .mark) (c .hint) in
           let u = only fs os h (kind-one a (c .kind) (c .parameter) (length os) fit (omega arith) (omega arith)) in
-          projected-true k4 (u .0) (u .1) (u .2) (u .3) (u .4)
+          by-row-true (made-meant m c os lim not5) (r .0 (map length os)) (r .1 os fit) (u .0) (u .1) (u .2) (u .3) (u .4)
       go false false true e1 e2 e3 = true-cut NoRow (c .fetch) (made m c os) (empty-made e3)
       go false false false e1 e2 e3 = tt
 

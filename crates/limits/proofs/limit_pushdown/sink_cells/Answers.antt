@@ -3,7 +3,8 @@ use mathlib.Core.List.{List, [], _∷_, _++_}
 use Prim.Native.Nat.{ℕ, _+_, _-_, _*_, _<_, _≤_}
 use native.Mathlib.Omega.{arith}
 use lib.ListN.{length, take, drop, getD, replicate}
-use Rattle.std.proofs.shelf.Lists.{length-drop}
+use Rattle.std.proofs.shelf.Lists.{length-drop, append-nil}
+use Rattle.std.specs.declared.result.Result.the-variants.{Err}
 use Rattle.plan.specs.declared.cells.Cell.{Cell}
 use Rattle.plan.specs.Cells.{blank}
 use Rattle.plan.specs.Stacks.{content, room}
@@ -13,10 +14,11 @@ use Rattle.checks.proofs.Subtrees.{length-every}
 use Rattle.checks.proofs.Walks.{cells-more, cells-all}
 use Rattle.rows.proofs.Passed.{Trees, passed}
 use Rattle.sinks.specs.declared.requirements.GlobalRequirements.{GlobalRequirements}
-use Rattle.sinks.specs.Sink.{at-first, sunk, sink-sums-from}
+use Rattle.sinks.specs.Sink.{at-first, sunk, sink-sums-from, sink-sums}
 use Rattle.limits.specs.declared.pending.Pending.{Pending}
 use Rattle.limits.specs.Pending.{spread, Live}
 use Rattle.limits.proofs.Steps.{sunk-more, sums-more, range-stepped, fields-at, trees-within, spread-within, spread-some, room-left, trees-next}
+use Rattle.limits.proofs.Turns.{rest-known, turn-refused, turn-range, turn-sums, turn-cells, turn-trees}
 use Rattle.limits.proofs.limit_pushdown.sink_cells.Needs as need
 
 pub hand-down-requires : need.hand-down-requires
@@ -64,7 +66,16 @@ step-requires g c κs =
     record { pending = c .next-requirement-requirement .ensures .small; cell = fields-at a cells (c .loop-place .place) (passed a cells (c .pre .accepted) .fields) (c .loop-place-test .taken) .0 }
 
 pub returns-in-Break-above : need.returns-in-Break-above
-returns-in-Break-above g c = ?
+returns-in-Break-above g c =
+    let a = g .O·OperatorSet .answers (c .args .set .now) in
+    let cells = c .args .cells .now in
+    let fault = c .in-Break-above .field-0 .0 in
+    let sums : sink-sums a cells ≡ Err fault =
+    sym (c .loop-place .inv .6)
+    ∙ turn-refused a cells (c .loop-place .place) (c .loop-place-test .taken) (spread (content (c .loop-place .pending))) (spread (content (c .next-requirement-requirement .last .pending))) (c .next-requirement-requirement .result) (c .next-requirement-requirement .ensures .taken)
+    (content (c .loop-place .known)) (content (c .next-fact-own .last .known)) (c .next-fact-own .result) (c .first-fact .result) (c .loop-place .inv .3) (c .next-fact-own .ensures) (c .first-fact .ensures)
+    (c .step .result) (c .step .ensures) fault (c .in-Break-above .was tt) in
+    grind arith
 
 pub hand-down-requires-in-loop-place : need.hand-down-requires-in-loop-place
 hand-down-requires-in-loop-place g c κs = ?
@@ -74,4 +85,4 @@ loop-place-again g c = ?
 
 pub returns : need.returns
 unfolding sunk sink-sums-from
-returns g c = ?
+returns g c = grind (arith, cells-all, append-nil)

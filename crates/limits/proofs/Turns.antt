@@ -8,6 +8,7 @@ use lib.ListN.{length, take, drop, getD, replicate}
 use Rattle.std.specs.Vec.{listOf}
 use Rattle.std.proofs.shelf.Lists.{append-assoc, length-append, length-replicate, length-drop}
 use Rattle.std.specs.declared.option.Option.{Option}
+use Rattle.std.specs.declared.option.Option.the-variants.{Some, None}
 use Rattle.std.specs.declared.result.Result.{Result}
 use Rattle.std.specs.declared.result.Result.the-variants.{Ok, Err}
 use Rattle.plan.specs.declared.cells.Cell.{Cell}
@@ -109,3 +110,7 @@ module _ (a : Answers) (cells : List Cell) (p : ℕ) (more : p < length cells) (
         let low = next .0 in
         let same : length rs - 1 + here .children ≡ length new = omega arith in
         subst (λ n. Trees n behind) same (next .1)
+
+pub at-most-one : (o : Option Cell) → length (listOf o) ≤ 1
+at-most-one None = omega arith
+at-most-one (Some c) = omega arith

@@ -28,6 +28,9 @@ pub record Lent : Type 0 where
   pub requirements : ℕ
   pub facts : ℕ
 
+abbrev pub lent-of : ℕ → ℕ → ℕ → Lent
+lent-of work requirements facts = record { work = work; requirements = requirements; facts = facts }
+
 -- twice the count in plan and work table, the count in each stack
 abbrev pub rooms-answer : ℕ → ℕ → Lent → Result (Unit {0}) Fault
 rooms-answer table count lent =

@@ -1,3 +1,4 @@
 pub mod Sums
 pub mod Pending
 pub mod Calls
+pub mod Laws

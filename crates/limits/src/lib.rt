@@ -1,4 +1,5 @@
 // The rules that move limits through plans.
+mod calls;
 mod limit_pushdown;
 mod limit_pushdown_past_window;
 mod limited_distinct_aggregation;
@@ -6,4 +7,5 @@ mod pending;
 mod rules;
 mod sums;
 
+pub use pending::Pending;
 pub use rules::Rule;

@@ -31,7 +31,7 @@ loop-parents-again c =
     let low : c .in-Some .parent ≤ c .len .result - 1 = subst (λ (o : Option ℕ). found o (λ p. p ≤ c .len .result - 1)) (c .in-Some .is) (c .in-Continue-parent .ensures tt .parent) in
     let within : c .in-Some .parent < length old = omega (arith, c .loop-parents .inv .1 .some, c .len .ensures, c .loop-parents .cells .ok .0) in
     let few : length old < max-nodes = omega (arith, room .0, c .loop-parents .cells .ok .0) in
-    let on : c .loop-parents .cursor .place < c .node-in-Some .last .self .place = omega (arith, node .2, c .next-parent .ensures .onward .place, c .skip-blanks-in-Some .ensures .place) in (
+    let on : c .loop-parents .cursor .place < c .node-in-Some .last .self .place = omega (arith, node .2, c .next-parent .ensures .onward .place, c .skip-blanks-in-Some .ensures .onward .place) in (
       search needs,
       subst (λ (xs : List Cell). Read-plan (c .node-in-Some .last .self .place) xs) (sym whole) (child-read _ _ (c .in-Some .parent) old leaf (c .loop-parents .inv .1) within (room .1) few (node .0) (node .1) on),
       all-weaker _ _ (λ x h. omega (arith, h, long, c .len .ensures, c .count-child .ensures .len)) _ (c .in-Continue-parent .ensures tt .kept),

@@ -57,3 +57,26 @@ at-most most p n = cond (leb n most) (Ok n) (Err p)
 abbrev pub number-at : ℕ → Problem → List ℕ → Result ℕ Problem
 number-at most p [] = Err ExpectedNumber
 number-at most p (x ∷ xs) = cond (asciiDigit x) (at-most most p (number-on (x - 48) xs)) (Err ExpectedNumber)
+
+-- what stands behind the digits that a text begins with
+abbrev pub past-digits : List ℕ → List ℕ
+past-digits [] = []
+past-digits (x ∷ xs) = cond (asciiDigit x) (past-digits xs) (x ∷ xs)
+
+-- an answer with what is left of the text, or a problem
+abbrev pub parsed : {A : Type 0} → Result A Problem → List ℕ → Result (A × List ℕ) Problem
+parsed (Ok a) left = Ok (a, left)
+parsed (Err p) left = Err p
+
+-- what `?` does: go on behind what was read, or hand a problem up
+abbrev pub then : {A B : Type 0} → Result (A × List ℕ) Problem → (A → List ℕ → Result (B × List ℕ) Problem) → Result (B × List ℕ) Problem
+then (Ok a) f = f (a .0) (a .1)
+then (Err p) f = Err p
+
+-- a number, and what is left behind it
+abbrev pub number-parsed : ℕ → Problem → List ℕ → Result (ℕ × List ℕ) Problem
+number-parsed most p xs = parsed (number-at most p xs) (past-digits xs)
+
+-- a byte that is due
+abbrev pub due-at : ℕ → Problem → List ℕ → Result (Unit {0} × List ℕ) Problem
+due-at b p xs = cond (begins b xs) (Ok (tt, tail xs)) (Err p)

@@ -6,7 +6,8 @@ ghost use Rattle.std.specs.Slices.{found};
 ghost use Rattle.std.specs.Vec.{made};
 ghost use Rattle.std.specs.declared.option.Option.the-variants.{None};
 ghost use Rattle.plan.specs.Numbers.{max-number, max-parameter};
-ghost use Rattle.notation.specs.Cursors.{Onward};
+ghost use Rattle.notation.specs.Cursors.{Onward, rest, parsed};
+ghost use Rattle.notation.specs.Nodes.{amount-at, parameter-at, bracketed-at, last-limit-at};
 ghost use Rattle.notation.specs.Widths.{Packs};
 use crate::cursor::Cursor;
 use plan::Cell;
@@ -31,6 +32,7 @@ impl<'a> Cursor<'a> {
     fn amount(&mut self) -> Result<u64, Problem>
         ensures onward { λ _. ⌜ Onward (now (self .entry)) (now (self .exit)) ⌝ }
         ensures small { λ r. ⌜ made r (λ n. n ≤ max-number) ⌝ }
+        ensures value { λ r. ⌜ parsed r (rest (now (self .exit))) ≡ amount-at (rest (now (self .entry))) ⌝ }
     {
         self.number(MAX_NUMBER, Problem::NumberTooLarge)
     }
@@ -39,21 +41,23 @@ impl<'a> Cursor<'a> {
     fn parameter(&mut self) -> Result<u32, Problem>
         ensures onward { λ _. ⌜ Onward (now (self .entry)) (now (self .exit)) ⌝ }
         ensures small { λ r. ⌜ made r (λ n. n ≤ max-parameter) ⌝ }
+        ensures value { λ r. ⌜ parsed r (rest (now (self .exit))) ≡ parameter-at (rest (now (self .entry))) ⌝ }
     {
         let number = self.number(u64::from(MAX_PARAMETER), Problem::ParameterTooLarge)?;
         Ok(number as u32)
     }
 
     // A number between brackets, if one opens here.
-    fn bracketed(&mut self, open: u8, close: u8) -> Result<Option<u64>, Problem>
+    fn bracketed(&mut self, before: u8, after: u8) -> Result<Option<u64>, Problem>
         ensures onward { λ _. ⌜ Onward (now (self .entry)) (now (self .exit)) ⌝ }
         ensures small { λ r. ⌜ made r (λ o. found o (λ n. n ≤ max-number)) ⌝ }
+        ensures value { λ r. ⌜ parsed r (rest (now (self .exit))) ≡ bracketed-at before after (rest (now (self .entry))) ⌝ }
     {
-        if !self.take(open) {
+        if !self.take(before) {
             return Ok(None);
         }
         let number = self.amount()?;
-        self.expect(close, Problem::ExpectedClosing)?;
+        self.expect(after, Problem::ExpectedClosing)?;
         Ok(Some(number))
     }
 
@@ -61,6 +65,7 @@ impl<'a> Cursor<'a> {
     fn last_limit(&mut self) -> Result<Option<u64>, Problem>
         ensures onward { λ _. ⌜ Onward (now (self .entry)) (now (self .exit)) ⌝ }
         ensures small { λ r. ⌜ made r (λ o. found o (λ n. n ≤ max-number)) ⌝ }
+        ensures value { λ r. ⌜ parsed r (rest (now (self .exit))) ≡ last-limit-at (rest (now (self .entry))) ⌝ }
     {
         let fetch = if self.take(b'-') {
             None

@@ -7,7 +7,7 @@ ghost use Rattle.std.specs.Options.{isSome};
 ghost use Rattle.std.specs.Slices.{found};
 ghost use Rattle.std.specs.Vec.{made};
 ghost use Rattle.plan.specs.Stacks.{first};
-ghost use Rattle.notation.specs.Cursors.{Onward, rest, begins, past-blanks, digit-at, tail, number-at};
+ghost use Rattle.notation.specs.Cursors.{Onward, rest, begins, past-blanks, digit-at, tail, parsed, number-parsed, due-at};
 use crate::cursor::Cursor;
 use text::Problem;
 use text::is_blank;
@@ -42,6 +42,7 @@ impl<'a> Cursor<'a> {
         ensures onward { λ _. ⌜ Onward (now (self .entry)) (now (self .exit)) ⌝ }
         ensures moved { λ r. ⌜ now (self .exit) .place ≡ cond r (now (self .entry) .place + 1) (now (self .entry) .place) ⌝ }
         ensures value { λ r. ⌜ r ≡ begins byte (rest (now (self .entry))) ⌝ }
+        ensures left { λ r. ⌜ rest (now (self .exit)) ≡ cond r (tail (rest (now (self .entry)))) (rest (now (self .entry))) ⌝ }
     {
         let Some(next) = self.peek() else {
             return false;
@@ -56,6 +57,7 @@ impl<'a> Cursor<'a> {
     /// Steps over a byte that is due.
     pub fn expect(&mut self, byte: u8, problem: Problem) -> Result<(), Problem>
         ensures onward { λ _. ⌜ Onward (now (self .entry)) (now (self .exit)) ⌝ }
+        ensures value { λ r. ⌜ parsed r (rest (now (self .exit))) ≡ due-at byte problem (rest (now (self .entry))) ⌝ }
     {
         if self.take(byte) {
             Ok(())
@@ -99,7 +101,7 @@ impl<'a> Cursor<'a> {
     pub fn number(&mut self, most: u64, problem: Problem) -> Result<u64, Problem>
         ensures onward { λ _. ⌜ Onward (now (self .entry)) (now (self .exit)) ⌝ }
         ensures some { λ r. ⌜ made r (λ n. (n ≤ most) × (now (self .entry) .place < now (self .exit) .place)) ⌝ }
-        ensures value { λ r. ⌜ r ≡ number-at most problem (rest (now (self .entry))) ⌝ }
+        ensures value { λ r. ⌜ parsed r (rest (now (self .exit))) ≡ number-parsed most problem (rest (now (self .entry))) ⌝ }
     {
         let start = self.place;
         let Some(first) = self.digit() else {

@@ -1,21 +1,18 @@
 -- What a text begins with: a byte, blanks, digits. Assumes nothing.
-use mathlib.Core.Path.{_≡_, refl, sym, ap, _∙_}
+use mathlib.Core.Path.{_≡_, sym, ap, subst, _∙_}
 use mathlib.Core.Bool.{Bool, true, false, cond}
 use mathlib.Core.List.{List, [], _∷_}
-use Prim.Native.Nat.{ℕ, _+_, _-_, _*_, _<_, min}
+use Prim.Native.Nat.{ℕ, _+_, _-_, _<_}
 use native.Mathlib.Omega.{arith}
 use Rattle.std.specs.Text.{asciiDigit}
-use Rattle.std.specs.declared.option.Option.{Option}
 use Rattle.std.specs.declared.option.Option.the-variants.{Some, None}
-use Rattle.std.specs.declared.result.Result.the-variants.{Ok, Err}
-use lib.Dec.{eqb}
 use lib.ListN.{length, drop}
 use Rattle.std.proofs.shelf.Lists.{drop-more}
 use Rattle.plan.specs.Stacks.{first}
 use Rattle.text.specs.Hex.{is-blank}
-use Rattle.text.specs.declared.problems.Problem.{Problem}
-use Rattle.text.specs.declared.problems.Problem.the-variants.{ExpectedNumber}
-use Rattle.notation.specs.Cursors.{begins, past-blanks, digit-at, tail, number-on, at-most, number-at}
+use Rattle.text.specs.Letters.{kind-of-letter}
+use Rattle.notation.specs.Cursors.{past-blanks, digit-at, tail}
+use Rattle.notation.specs.Nodes.{lettered-at, node-at}
 
 -- the rest one byte on
 pub one-on : (xs : List ℕ) (i : ℕ) → i < length xs → drop (i + 1) xs ≡ tail (drop i xs)
@@ -28,3 +25,11 @@ digit-some x (y ∷ xs) e = let same : y ≡ x = cc in ap (λ (k : ℕ). cond (a
 pub blank-more : (x : ℕ) (xs : List ℕ) → first xs ≡ Some x → is-blank x ≡ true → past-blanks xs ≡ past-blanks (tail xs)
 blank-more x [] e b = let no-way : _≡_ {A = ℕ} 0 1 = cc in absurd (omega arith)
 blank-more x (y ∷ xs) e b = let same : y ≡ x = cc in ap (λ (t : Bool). cond t (past-blanks xs) (y ∷ xs)) (ap is-blank same ∙ b)
+
+letter-first : (x k : ℕ) (xs : List ℕ) → asciiDigit x ≡ false → kind-of-letter x ≡ Some k → node-at (x ∷ xs) ≡ lettered-at k xs
+letter-first x k xs d e = rw (d, e)
+
+-- a node that begins with its letter
+pub node-letter : (x k : ℕ) (xs : List ℕ) → first xs ≡ Some x → asciiDigit x ≡ false → kind-of-letter x ≡ Some k → node-at xs ≡ lettered-at k (tail xs)
+node-letter x k [] f d e = let no-way : _≡_ {A = ℕ} 0 1 = cc in absurd (omega arith)
+node-letter x k (y ∷ xs) f d e = let same : x ≡ y = cc in subst (λ (z : ℕ). node-at (z ∷ xs) ≡ lettered-at k xs) same (letter-first x k xs d e)

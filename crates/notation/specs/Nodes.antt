@@ -46,8 +46,8 @@ abbrev pub limits-at : ℕ → List ℕ → Result (Limits × List ℕ) Problem
 limits-at k xs =
     cond (not (eqb k global-limit) && not (eqb k local-limit)) (then (bracketed-at 91 93 xs) (λ f ys. Ok (limits-of 0 f, ys)))
     (then (due-at 40 ExpectedLimits xs) (λ _ ys.
-      cond (eqb k local-limit) (then (last-limit-at ys) (λ f zs. Ok (limits-of 0 f, zs)))
-      (then (amount-at ys) (λ s zs. then (due-at 44 ExpectedComma zs) (λ _ vs. then (last-limit-at vs) (λ f ws. Ok (limits-of s f, ws)))))))
+    cond (eqb k local-limit) (then (last-limit-at ys) (λ f zs. Ok (limits-of 0 f, zs)))
+    (then (amount-at ys) (λ s zs. then (due-at 44 ExpectedComma zs) (λ _ vs. then (last-limit-at vs) (λ f ws. Ok (limits-of s f, ws)))))))
 
 -- a hint, if there is one; it cannot stand beside a skip above 0
 abbrev pub hint-at : ℕ → List ℕ → Result (Option ℕ × List ℕ) Problem

@@ -6,7 +6,8 @@ ghost use Rattle.std.specs.Slices.{found};
 ghost use Rattle.std.specs.Vec.{made};
 ghost use Rattle.std.specs.declared.option.Option.the-variants.{None};
 ghost use Rattle.plan.specs.Numbers.{max-number, max-parameter};
-ghost use Rattle.notation.specs.Cursors.{Onward};
+ghost use Rattle.notation.specs.Cursors.{Onward, rest, parsed};
+ghost use Rattle.notation.specs.Nodes.{amount-at, parameter-at, bracketed-at, last-limit-at, limits-at, hint-at, own-skip-at, skip-at, suffixes-at, numbered-at, own-parameter-at, lettered-at, node-at};
 ghost use Rattle.notation.specs.Widths.{Packs};
 use crate::cursor::Cursor;
 use plan::Cell;
@@ -31,6 +32,7 @@ impl<'a> Cursor<'a> {
     fn amount(&mut self) -> Result<u64, Problem>
         ensures onward { λ _. ⌜ Onward (now (self .entry)) (now (self .exit)) ⌝ }
         ensures small { λ r. ⌜ made r (λ n. n ≤ max-number) ⌝ }
+        ensures value { λ r. ⌜ parsed r (rest (now (self .exit))) ≡ amount-at (rest (now (self .entry))) ⌝ }
     {
         self.number(MAX_NUMBER, Problem::NumberTooLarge)
     }
@@ -39,21 +41,23 @@ impl<'a> Cursor<'a> {
     fn parameter(&mut self) -> Result<u32, Problem>
         ensures onward { λ _. ⌜ Onward (now (self .entry)) (now (self .exit)) ⌝ }
         ensures small { λ r. ⌜ made r (λ n. n ≤ max-parameter) ⌝ }
+        ensures value { λ r. ⌜ parsed r (rest (now (self .exit))) ≡ parameter-at (rest (now (self .entry))) ⌝ }
     {
         let number = self.number(u64::from(MAX_PARAMETER), Problem::ParameterTooLarge)?;
         Ok(number as u32)
     }
 
     // A number between brackets, if one opens here.
-    fn bracketed(&mut self, open: u8, close: u8) -> Result<Option<u64>, Problem>
+    fn bracketed(&mut self, before: u8, after: u8) -> Result<Option<u64>, Problem>
         ensures onward { λ _. ⌜ Onward (now (self .entry)) (now (self .exit)) ⌝ }
         ensures small { λ r. ⌜ made r (λ o. found o (λ n. n ≤ max-number)) ⌝ }
+        ensures value { λ r. ⌜ parsed r (rest (now (self .exit))) ≡ bracketed-at before after (rest (now (self .entry))) ⌝ }
     {
-        if !self.take(open) {
+        if !self.take(before) {
             return Ok(None);
         }
         let number = self.amount()?;
-        self.expect(close, Problem::ExpectedClosing)?;
+        self.expect(after, Problem::ExpectedClosing)?;
         Ok(Some(number))
     }
 
@@ -61,6 +65,7 @@ impl<'a> Cursor<'a> {
     fn last_limit(&mut self) -> Result<Option<u64>, Problem>
         ensures onward { λ _. ⌜ Onward (now (self .entry)) (now (self .exit)) ⌝ }
         ensures small { λ r. ⌜ made r (λ o. found o (λ n. n ≤ max-number)) ⌝ }
+        ensures value { λ r. ⌜ parsed r (rest (now (self .exit))) ≡ last-limit-at (rest (now (self .entry))) ⌝ }
     {
         let fetch = if self.take(b'-') {
             None
@@ -75,17 +80,19 @@ impl<'a> Cursor<'a> {
     fn limits(&mut self, kind: u8) -> Result<Limits, Problem>
         ensures onward { λ _. ⌜ Onward (now (self .entry)) (now (self .exit)) ⌝ }
         ensures small { λ r. ⌜ made r (λ l. (l .skip ≤ max-number) × found (l .fetch) (λ n. n ≤ max-number)) ⌝ }
+        ensures value { λ r. ⌜ parsed r (rest (now (self .exit))) ≡ limits-at kind (rest (now (self .entry))) ⌝ }
     {
         if kind != GLOBAL_LIMIT && kind != LOCAL_LIMIT {
             let fetch = self.bracketed(b'[', b']')?;
             return Ok(Limits { skip: 0, fetch });
         }
         self.expect(b'(', Problem::ExpectedLimits)?;
-        let mut skip = 0;
-        if kind == GLOBAL_LIMIT {
-            skip = self.amount()?;
-            self.expect(b',', Problem::ExpectedComma)?;
+        if kind == LOCAL_LIMIT {
+            let fetch = self.last_limit()?;
+            return Ok(Limits { skip: 0, fetch });
         }
+        let skip = self.amount()?;
+        self.expect(b',', Problem::ExpectedComma)?;
         let fetch = self.last_limit()?;
         Ok(Limits { skip, fetch })
     }
@@ -94,6 +101,7 @@ impl<'a> Cursor<'a> {
     fn hint(&mut self, skip: u64) -> Result<Option<u64>, Problem>
         ensures onward { λ _. ⌜ Onward (now (self .entry)) (now (self .exit)) ⌝ }
         ensures small { λ r. ⌜ made r (λ o. found o (λ n. n ≤ max-number) × ((o ≡ None) ⊎ (skip ≡ 0))) ⌝ }
+        ensures value { λ r. ⌜ parsed r (rest (now (self .exit))) ≡ hint-at skip (rest (now (self .entry))) ⌝ }
     {
         let start = self.place;
         let hint = self.bracketed(b'{', b'}')?;
@@ -108,6 +116,7 @@ impl<'a> Cursor<'a> {
     fn own_skip(&mut self, hint: Option<u64>) -> Result<u64, Problem>
         ensures onward { λ _. ⌜ Onward (now (self .entry)) (now (self .exit)) ⌝ }
         ensures small { λ r. ⌜ made r (λ n. (n ≤ max-number) × ((hint ≡ None) ⊎ (n ≡ 0))) ⌝ }
+        ensures value { λ r. ⌜ parsed r (rest (now (self .exit))) ≡ own-skip-at hint (rest (now (self .entry))) ⌝ }
     {
         let start = self.place;
         if !self.take(b'+') {
@@ -117,6 +126,19 @@ impl<'a> Cursor<'a> {
         if hint.is_some() && skip > 0 {
             self.place = start;
             return Err(Problem::HintBesideSkip);
+        }
+        Ok(skip)
+    }
+
+    // The skip of a node: its own, where one may be written, else the one that was read before.
+    fn skip(&mut self, plus: bool, skip: u64, hint: Option<u64>) -> Result<u64, Problem>
+        requires { ⌜ skip ≤ max-number ⌝ ∗ ⌜ (hint ≡ None) ⊎ (skip ≡ 0) ⌝ }
+        ensures onward { λ _. ⌜ Onward (now (self .entry)) (now (self .exit)) ⌝ }
+        ensures small { λ r. ⌜ made r (λ n. (n ≤ max-number) × ((hint ≡ None) ⊎ (n ≡ 0))) ⌝ }
+        ensures value { λ r. ⌜ parsed r (rest (now (self .exit))) ≡ skip-at plus skip hint (rest (now (self .entry))) ⌝ }
+    {
+        if plus {
+            return self.own_skip(hint);
         }
         Ok(skip)
     }
@@ -132,12 +154,10 @@ impl<'a> Cursor<'a> {
         requires { ⌜ parameter ≤ max-parameter ⌝ ∗ ⌜ limits .skip ≤ max-number ⌝ ∗ ⌜ found (limits .fetch) (λ n. n ≤ max-number) ⌝ }
         ensures onward { λ _. ⌜ Onward (now (self .entry)) (now (self .exit)) ⌝ }
         ensures packs { λ r. ⌜ made r (λ c. Packs c × (c .children ≡ 0)) ⌝ }
+        ensures value { λ r. ⌜ parsed r (rest (now (self .exit))) ≡ suffixes-at kind parameter limits plus (rest (now (self .entry))) ⌝ }
     {
         let hint = self.hint(limits.skip)?;
-        let mut skip = limits.skip;
-        if plus {
-            skip = self.own_skip(hint)?;
-        }
+        let skip = self.skip(plus, limits.skip, hint)?;
         let mark = self.take(b'!');
         Ok(Cell {
             kind,
@@ -154,6 +174,7 @@ impl<'a> Cursor<'a> {
     fn numbered(&mut self) -> Result<Cell, Problem>
         ensures onward { λ _. ⌜ Onward (now (self .entry)) (now (self .exit)) ⌝ }
         ensures some { λ r. ⌜ made r (λ c. Packs c × (c .children ≡ 0) × (now (self .entry) .place < now (self .exit) .place)) ⌝ }
+        ensures value { λ r. ⌜ parsed r (rest (now (self .exit))) ≡ numbered-at (rest (now (self .entry))) ⌝ }
     {
         let kind = self.number(255, Problem::KindTooLarge)? as u8;
         self.expect(b':', Problem::ExpectedColon)?;
@@ -162,15 +183,28 @@ impl<'a> Cursor<'a> {
         self.suffixes(kind, parameter, Limits { skip: 0, fetch }, true)
     }
 
+    // The digits behind a letter, if there are any.
+    fn own_parameter(&mut self) -> Result<u32, Problem>
+        ensures onward { λ _. ⌜ Onward (now (self .entry)) (now (self .exit)) ⌝ }
+        ensures small { λ r. ⌜ made r (λ n. n ≤ max-parameter) ⌝ }
+        ensures value { λ r. ⌜ parsed r (rest (now (self .exit))) ≡ own-parameter-at (rest (now (self .entry))) ⌝ }
+    {
+        let Some(next) = self.peek() else {
+            return Ok(0);
+        };
+        if next.is_ascii_digit() {
+            return self.parameter();
+        }
+        Ok(0)
+    }
+
     // What stands behind a node's letter.
     fn lettered(&mut self, kind: u8) -> Result<Cell, Problem>
         ensures onward { λ _. ⌜ Onward (now (self .entry)) (now (self .exit)) ⌝ }
         ensures some { λ r. ⌜ made r (λ c. Packs c × (c .children ≡ 0)) ⌝ }
+        ensures value { λ r. ⌜ parsed r (rest (now (self .exit))) ≡ lettered-at kind (rest (now (self .entry))) ⌝ }
     {
-        let mut parameter = 0;
-        if let Some(b'0'..=b'9') = self.peek() {
-            parameter = self.parameter()?;
-        }
+        let parameter = self.own_parameter()?;
         let limits = self.limits(kind)?;
         self.suffixes(kind, parameter, limits, kind != GLOBAL_LIMIT)
     }
@@ -179,6 +213,7 @@ impl<'a> Cursor<'a> {
     pub fn node(&mut self) -> Result<Cell, Problem>
         ensures onward { λ _. ⌜ Onward (now (self .entry)) (now (self .exit)) ⌝ }
         ensures some { λ r. ⌜ made r (λ c. Packs c × (c .children ≡ 0) × (now (self .entry) .place < now (self .exit) .place)) ⌝ }
+        ensures value { λ r. ⌜ parsed r (rest (now (self .exit))) ≡ node-at (rest (now (self .entry))) ⌝ }
     {
         let Some(byte) = self.peek() else {
             return Err(Problem::ExpectedNode);

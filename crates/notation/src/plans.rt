@@ -1,14 +1,19 @@
 // A plan read from its text: nodes in prefix order, children behind their parent.
 ghost use mathlib.Core.Path.{_≡_};
-ghost use Prim.Native.Nat.{_+_, _<_, _≤_};
+ghost use mathlib.Core.Bool.{true};
+ghost use mathlib.Core.List.{reverse};
+ghost use Prim.Native.Nat.{_+_, _-_, _<_, _≤_};
 ghost use lib.ListN.{length, getD};
 ghost use Rattle.std.specs.Of.Vec.{vec-items, vec-len};
 ghost use Rattle.std.specs.Slices.{found};
 ghost use Rattle.std.specs.Vec.{made, refused};
+ghost use Rattle.std.specs.declared.result.Result.the-variants.{Ok};
+ghost use Rattle.std.specs.declared.option.Option.the-variants.{Some};
 ghost use Rattle.std.specs.shelf.Lists.{All};
 ghost use Rattle.plan.specs.Cells.{blank};
 ghost use Rattle.plan.specs.Numbers.{max-nodes, max-children};
-ghost use Rattle.notation.specs.Cursors.{Onward};
+ghost use Rattle.notation.specs.Cursors.{Onward, rest, past-blanks, begins, tail};
+ghost use Rattle.notation.specs.Plans.{close-at, next-at, Stands-for};
 ghost use Rattle.notation.specs.Trees.{child-counted, Read-plan};
 use crate::cursor::Cursor;
 use plan::Cell;
@@ -38,6 +43,25 @@ fn count_child(cells: &mut Vec<Cell>, parent: usize) -> Result<(), Problem>
     Ok(())
 }
 
+// Behind a complete tree whose parent's parenthesis is open: a comma, and that parent.
+fn sibling(cursor: &mut Cursor, parents: &Vec<usize>) -> Result<Option<usize>, Problem>
+    requires { ⌜ 0 < vec-len (now parents) ⌝ }
+    ensures onward { λ _. ⌜ Onward (now (cursor .entry)) (now (cursor .exit)) ⌝ }
+    ensures parent { λ r. ⌜ made r (λ o. o ≡ Some (getD (vec-items (now (parents .entry))) (vec-len (now (parents .entry)) - 1) 0)) ⌝ }
+    ensures comma { λ r. ⌜ made r (λ _. begins 44 (rest (now (cursor .entry))) ≡ true) ⌝ }
+    ensures left { λ r. ⌜ made r (λ _. rest (now (cursor .exit)) ≡ tail (rest (now (cursor .entry)))) ⌝ }
+{
+    let parent = parents[parents.len() - 1];
+    if cursor.take(b',') {
+        return Ok(Some(parent));
+    }
+    if cursor.peek().is_none() {
+        Err(Problem::Unclosed)
+    } else {
+        Err(Problem::Trailing)
+    }
+}
+
 // Behind a complete tree: closes parentheses, and gives the parent of the next tree; none at the end of the plan.
 fn close(
     cursor: &mut Cursor,
@@ -48,30 +72,19 @@ fn close(
     ensures onward { λ _. ⌜ Onward (now (cursor .entry)) (now (cursor .exit)) ⌝ }
     ensures kept { λ _. ⌜ All (λ p. p ≤ last) (vec-items (now (parents .exit))) ⌝ }
     ensures parent { λ r. ⌜ made r (λ o. found o (λ p. p ≤ last)) ⌝ }
+    ensures value { λ r. ⌜ made r (λ o. close-at (reverse (vec-items (now (parents .entry)))) (rest (now (cursor .entry))) ≡ Ok ((o, reverse (vec-items (now (parents .exit)))), rest (now (cursor .exit)))) ⌝ }
 {
-    while let Some(b')') = cursor.peek() {
-        if parents.pop().is_none() {
-            return Err(Problem::Trailing);
+    while !parents.is_empty() {
+        if !cursor.take(b')') {
+            return sibling(cursor, parents);
         }
-        cursor.place += 1;
+        let _ = parents.pop();
         cursor.skip_blanks();
     }
-    let next = cursor.peek();
-    if parents.is_empty() {
-        return if next.is_none() {
-            Ok(None)
-        } else {
-            Err(Problem::Trailing)
-        };
-    }
-    let parent = parents[parents.len() - 1];
-    match next {
-        Some(b',') => {
-            cursor.place += 1;
-            Ok(Some(parent))
-        }
-        Some(_) => Err(Problem::Trailing),
-        None => Err(Problem::Unclosed),
+    if cursor.peek().is_none() {
+        Ok(None)
+    } else {
+        Err(Problem::Trailing)
     }
 }
 
@@ -85,23 +98,28 @@ fn next_parent(
     ensures onward { λ _. ⌜ Onward (now (cursor .entry)) (now (cursor .exit)) ⌝ }
     ensures kept { λ r. ⌜ made r (λ _. All (λ p. p ≤ last) (vec-items (now (parents .exit)))) ⌝ }
     ensures parent { λ r. ⌜ made r (λ o. found o (λ p. p ≤ last)) ⌝ }
+    ensures value { λ r. ⌜ made r (λ o. next-at (reverse (vec-items (now (parents .entry)))) last (past-blanks (rest (now (cursor .entry)))) ≡ Ok ((o, reverse (vec-items (now (parents .exit)))), rest (now (cursor .exit)))) ⌝ }
 {
     cursor.skip_blanks();
-    match cursor.peek() {
-        Some(b'(') => {
-            cursor.place += 1;
-            parents.push(last)?;
-            Ok(Some(last))
-        }
-        Some(b',') | Some(b')') | None => close(cursor, parents, last),
-        Some(_) => Ok(Some(last)),
+    let Some(next) = cursor.peek() else {
+        return close(cursor, parents, last);
+    };
+    if next == b'(' {
+        cursor.place += 1;
+        parents.push(last)?;
+        return Ok(Some(last));
     }
+    if next == b',' || next == b')' {
+        return close(cursor, parents, last);
+    }
+    Ok(Some(last))
 }
 
 fn read_cells(heap: Global, cursor: &mut Cursor) -> Result<Vec<Cell>, Problem>
     requires { ⌜ now cursor .place ≡ 0 ⌝ }
     ensures onward { λ _. ⌜ Onward (now (cursor .entry)) (now (cursor .exit)) ⌝ }
     ensures made { λ r. ⌜ made r (λ v. Read-plan (length (now (now (cursor .entry) .text))) (vec-items v)) ⌝ }
+    ensures reads { λ r. ⌜ made r (λ v. Stands-for (now (now (cursor .entry) .text)) (vec-items v)) ⌝ }
 {
     let mut cells = Vec::new(heap);
     let mut parents = Vec::new(heap);
@@ -117,6 +135,7 @@ fn read_cells(heap: Global, cursor: &mut Cursor) -> Result<Vec<Cell>, Problem>
 
 /// The cells that a text stands for; docs/notation.md has the notation.
 pub fn read_plan(heap: Global, text: &str) -> Result<Vec<Cell>, Slip>
+    ensures reads { λ r. ⌜ made r (λ v. Stands-for (now (text .entry)) (vec-items v)) ⌝ }
     ensures cells { λ r. ⌜ made r (λ v. Read-plan (length (now (text .entry))) (vec-items v)) ⌝ }
     ensures column { λ r. ⌜ refused r (λ s. (1 ≤ s .column) × (s .column ≤ length (now (text .entry)) + 1)) ⌝ }
 {

@@ -7,7 +7,7 @@ ghost use Rattle.std.specs.Options.{isSome};
 ghost use Rattle.std.specs.Slices.{found};
 ghost use Rattle.std.specs.Vec.{made};
 ghost use Rattle.plan.specs.Stacks.{first};
-ghost use Rattle.notation.specs.Cursors.{Onward};
+ghost use Rattle.notation.specs.Cursors.{Onward, rest, begins, past-blanks, digit-at, tail, parsed, number-parsed, due-at};
 use crate::cursor::Cursor;
 use text::Problem;
 use text::is_blank;
@@ -41,8 +41,13 @@ impl<'a> Cursor<'a> {
     pub fn take(&mut self, byte: u8) -> bool
         ensures onward { λ _. ⌜ Onward (now (self .entry)) (now (self .exit)) ⌝ }
         ensures moved { λ r. ⌜ now (self .exit) .place ≡ cond r (now (self .entry) .place + 1) (now (self .entry) .place) ⌝ }
+        ensures value { λ r. ⌜ r ≡ begins byte (rest (now (self .entry))) ⌝ }
+        ensures left { λ r. ⌜ rest (now (self .exit)) ≡ cond r (tail (rest (now (self .entry)))) (rest (now (self .entry))) ⌝ }
     {
-        if self.place >= self.text.len() || self.text[self.place] != byte {
+        let Some(next) = self.peek() else {
+            return false;
+        };
+        if next != byte {
             return false;
         }
         self.place += 1;
@@ -52,6 +57,7 @@ impl<'a> Cursor<'a> {
     /// Steps over a byte that is due.
     pub fn expect(&mut self, byte: u8, problem: Problem) -> Result<(), Problem>
         ensures onward { λ _. ⌜ Onward (now (self .entry)) (now (self .exit)) ⌝ }
+        ensures value { λ r. ⌜ parsed r (rest (now (self .exit))) ≡ due-at byte problem (rest (now (self .entry))) ⌝ }
     {
         if self.take(byte) {
             Ok(())
@@ -62,9 +68,13 @@ impl<'a> Cursor<'a> {
 
     /// Steps over blanks.
     pub fn skip_blanks(&mut self)
-        ensures { λ _. ⌜ Onward (now (self .entry)) (now (self .exit)) ⌝ }
+        ensures onward { λ _. ⌜ Onward (now (self .entry)) (now (self .exit)) ⌝ }
+        ensures past { λ _. ⌜ rest (now (self .exit)) ≡ past-blanks (rest (now (self .entry))) ⌝ }
     {
-        while self.place < self.text.len() && is_blank(self.text[self.place]) {
+        while let Some(byte) = self.peek() {
+            if !is_blank(byte) {
+                return;
+            }
             self.place += 1;
         }
     }
@@ -74,27 +84,32 @@ impl<'a> Cursor<'a> {
         ensures onward { λ _. ⌜ Onward (now (self .entry)) (now (self .exit)) ⌝ }
         ensures moved { λ r. ⌜ now (self .exit) .place ≡ cond (isSome r) (now (self .entry) .place + 1) (now (self .entry) .place) ⌝ }
         ensures small { λ r. ⌜ found r (λ d. d < 10) ⌝ }
+        ensures value { λ r. ⌜ r ≡ digit-at (rest (now (self .entry))) ⌝ }
+        ensures past { λ r. ⌜ found r (λ _. rest (now (self .exit)) ≡ tail (rest (now (self .entry)))) ⌝ }
     {
-        if self.place >= self.text.len() || !self.text[self.place].is_ascii_digit() {
+        let Some(byte) = self.peek() else {
+            return None;
+        };
+        if !byte.is_ascii_digit() {
             return None;
         }
-        let digit = self.text[self.place] - b'0';
         self.place += 1;
-        Some(digit)
+        Some(byte - b'0')
     }
 
-    /// A number of digits, at most so large; the problem else.
+    /// A number in digits, at most so large; the problem else.
     pub fn number(&mut self, most: u64, problem: Problem) -> Result<u64, Problem>
         ensures onward { λ _. ⌜ Onward (now (self .entry)) (now (self .exit)) ⌝ }
         ensures some { λ r. ⌜ made r (λ n. (n ≤ most) × (now (self .entry) .place < now (self .exit) .place)) ⌝ }
+        ensures value { λ r. ⌜ parsed r (rest (now (self .exit))) ≡ number-parsed most problem (rest (now (self .entry))) ⌝ }
     {
         let start = self.place;
-        let mut value: u64 = 0;
+        let Some(first) = self.digit() else {
+            return Err(Problem::ExpectedNumber);
+        };
+        let mut value = u64::from(first);
         while let Some(digit) = self.digit() {
             value = value.saturating_mul(10).saturating_add(u64::from(digit));
-        }
-        if self.place == start {
-            return Err(Problem::ExpectedNumber);
         }
         if value > most {
             self.place = start;

@@ -4,7 +4,7 @@ ghost use Prim.Native.Nat.{ℕ, _<_};
 ghost use Rattle.std.specs.Options.{Cases};
 ghost use Rattle.std.specs.Slices.{found};
 ghost use Rattle.std.specs.declared.option.Option.the-variants.{Some};
-ghost use Rattle.text.specs.Letters.{letter-of};
+ghost use Rattle.text.specs.Letters.{letter-of, kind-of-letter};
 
 /// The letter of a kind, if it has one.
 pub fn letter_of(kind: u8) -> Option<char>
@@ -31,7 +31,8 @@ pub fn letter_of(kind: u8) -> Option<char>
 
 /// The kind that a letter stands for, if it stands for one.
 pub fn kind_of(letter: u8) -> Option<u8>
-    ensures { λ r. ⌜ Cases r ((k : ℕ) → letter-of k ≡ Some letter → ⊥) (λ k. letter-of k ≡ Some letter) ⌝ }
+    ensures value { λ r. ⌜ r ≡ kind-of-letter letter ⌝ }
+    ensures back { λ r. ⌜ Cases r ((k : ℕ) → letter-of k ≡ Some letter → ⊥) (λ k. letter-of k ≡ Some letter) ⌝ }
 {
     match letter {
         b'E' => Some(0),

@@ -1,3 +1,4 @@
+mod Keeping
 mod Spreads
 mod Steps
 mod Turns

@@ -67,3 +67,69 @@ fn check_rooms(
     check_room(requirements, count)?;
     check_room(facts, count)
 }
+
+/// The checks and the rule, up to the work table; what it leaves in the memory is the caller's to blank.
+fn compute<O: OperatorSet>(
+    rule: Rule,
+    set: &O,
+    plan: &[Cell],
+    count: usize,
+    work: &mut [Cell],
+    requirements: &mut [Pending],
+    facts: &mut [Fact],
+) -> Result<usize, Fault>
+    ensures answer { λ r. ⌜ front-of (now (work .exit)) r ≡ call-answer (O·OperatorSet .answers (now (set .entry))) rule (now (plan .entry)) count (lent-of (length (now (work .entry))) (length (now (requirements .entry))) (length (now (facts .entry)))) ⌝ }
+    ensures within { λ r. ⌜ made r (λ n. (n ≤ length (now (work .entry))) × (n ≤ length (now (plan .entry)))) ⌝ }
+{
+    check_count(plan.len(), count)?;
+    check_rooms(
+        plan.len(),
+        work.len(),
+        requirements.len(),
+        facts.len(),
+        count,
+    )?;
+    let mut pending = Stack::new(requirements);
+    let mut known = Stack::new(facts);
+    accept(set, plan, count, &mut known)?;
+    rewrite(rule, set, &plan[0..count], work, &mut pending, &mut known)
+}
+
+/// Granted, the new plan goes over the old one, with blank cells behind it; refused, the plan stays.
+fn write_back(plan: &mut [Cell], work: &[Cell], answer: Result<usize, Fault>)
+    requires { ⌜ made answer (λ n. (n ≤ length (now work)) × (n ≤ length (now plan))) ⌝ }
+    ensures { λ _. ⌜ now (plan .exit) ≡ laid blank (front-of (now (work .entry)) answer) (now (plan .entry)) ⌝ }
+{
+    if let Ok(count) = answer {
+        wipe(plan, Cell::BLANK);
+        plan[0..count].copy_from_slice(&work[0..count]);
+    }
+}
+
+/// One call of a rule. Granted, the plan table holds what the rule's steps give and blank cells behind it, and the answer is the new
+/// node count; refused, it is untouched. The lent memory is blank afterwards. Whatever the operators mean and store, as long as they
+/// keep the rules, each partition of the root has the same rows in the same order, and an accepted plan stays accepted, with as many
+/// partitions.
+pub fn call<O: OperatorSet>(
+    rule: Rule,
+    set: &O,
+    plan: &mut [Cell],
+    count: usize,
+    work: &mut [Cell],
+    requirements: &mut [Pending],
+    facts: &mut [Fact],
+) -> Result<usize, Fault>
+    ensures answer { λ r. ⌜ r ≡ counted (call-answer (O·OperatorSet .answers (now (set .entry))) rule (now (plan .entry)) count (lent-of (length (now (work .entry))) (length (now (requirements .entry))) (length (now (facts .entry))))) ⌝ }
+    ensures plan { λ _. ⌜ now (plan .exit) ≡ laid blank (call-answer (O·OperatorSet .answers (now (set .entry))) rule (now (plan .entry)) count (lent-of (length (now (work .entry))) (length (now (requirements .entry))) (length (now (facts .entry))))) (now (plan .entry)) ⌝ }
+    ensures work { λ _. ⌜ now (work .exit) ≡ replicate (length (now (work .entry))) blank ⌝ }
+    ensures requirements { λ _. ⌜ now (requirements .exit) ≡ replicate (length (now (requirements .entry))) blank-pending ⌝ }
+    ensures facts { λ _. ⌜ now (facts .exit) ≡ replicate (length (now (facts .entry))) blank-fact ⌝ }
+    ensures pages { λ r. ⌜ Pages-kept (O·OperatorSet .answers (now (set .entry))) (take count (now (plan .entry))) (take (count-after r count) (now (plan .exit))) ⌝ }
+{
+    let answer = compute(rule, set, plan, count, work, requirements, facts);
+    write_back(plan, work, answer);
+    wipe(work, Cell::BLANK);
+    wipe(requirements, Pending::BLANK);
+    wipe(facts, Fact::BLANK);
+    answer
+}

@@ -1,4 +1,5 @@
 mod Keeping
+mod Runs
 mod Spreads
 mod Steps
 mod Turns

@@ -14,7 +14,9 @@ use Rattle.operators.specs.Rows.{Meaning, rows}
 use Rattle.operators.specs.Rules.{Rules}
 use Rattle.checks.specs.Accepts.{Accepted}
 use Rattle.rows.specs.Laws.{Still-accepted}
+use Rattle.std.specs.declared.option.Option.the-variants.{Some}
 use Rattle.limits.specs.declared.rules.Rule.{Rule}
+use Rattle.limits.specs.declared.rules.RuleCall.{RuleCall}
 use Rattle.limits.specs.Calls.{Lent, call-answer}
 
 -- the node count that a call passes on: the new one, or the one that it got
@@ -30,6 +32,14 @@ pub record Page-kept (a : Answers) (m : Meaning) (before after : List Cell) : Ty
 -- whatever the operators mean and store, as long as they keep the rules
 abbrev pub Pages-kept : Answers → List Cell → List Cell → Type 0
 Pages-kept a before after = (m : Meaning) → Rules a m → Page-kept a m before after
+
+-- what a call does: its answer, the plan table afterwards, and that no page changes
+pub record Called (a : Answers) (rule : Rule) (lent : Lent) (count : ℕ) (before after : List Cell) (answer : Result ℕ Fault) : Type 0 where
+  -- the first refusal in order, or the new node count
+  pub answered : answer ≡ counted (call-answer a rule before count lent)
+  -- granted, the cells that the steps give and blank cells behind them; refused, untouched
+  pub written : after ≡ laid blank (call-answer a rule before count lent) before
+  pub pages : Pages-kept a (take count before) (take (count-after answer count) after)
 
 -- a call that is asked for: its rule, and the memory that it is lent
 pub record Asked : Type 0 where
@@ -53,3 +63,14 @@ ran a (c ∷ cs) table count =
 -- after any run, of any calls in any order with any memory, granted or refused
 abbrev pub Runs-keep-pages : Answers → Type 0
 Runs-keep-pages a = (calls : List Asked) (table : List Cell) (count : ℕ) → let after = ran a calls table count in Pages-kept a (take count table) (take (after .count) (after .table))
+
+-- calls to make, all with the same memory
+abbrev pub asked : Lent → List RuleCall → List Asked
+asked lent [] = []
+asked lent (c ∷ cs) = record { rule = c .rule; lent = lent } ∷ asked lent cs
+
+-- calls with their answers
+abbrev pub answered-calls : List RuleCall → List (Result ℕ Fault) → List RuleCall
+answered-calls [] rs = []
+answered-calls (c ∷ cs) [] = c ∷ cs
+answered-calls (c ∷ cs) (r ∷ rs) = record { rule = c .rule; answer = Some r } ∷ answered-calls cs rs

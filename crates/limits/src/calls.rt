@@ -2,16 +2,17 @@
 ghost use mathlib.Core.Path.{_≡_};
 ghost use mathlib.Core.List.{[]};
 ghost use Prim.Native.Nat.{_*_, _≤_};
-ghost use lib.ListN.{length, take, replicate};
+ghost use lib.ListN.{length, replicate};
 ghost use Rattle.std.specs.Vec.{made};
 ghost use Rattle.plan.specs.Cells.{blank};
 ghost use Rattle.plan.specs.Stacks.{content};
-ghost use Rattle.plan.specs.Tables.{counted, laid};
+ghost use Rattle.plan.specs.Tables.{laid};
 ghost use Rattle.checks.specs.Accepts.{Accepted};
 ghost use Rattle.checks.specs.Facts.{blank-fact, every-fact};
 ghost use Rattle.limits.specs.Pending.{blank-pending};
 ghost use Rattle.limits.specs.Calls.{rule-answer, lent-of, rooms-answer, call-answer, front-of};
-ghost use Rattle.limits.specs.Laws.{count-after, Pages-kept};
+ghost use Rattle.limits.specs.Laws.{Called};
+ghost use Rattle.limits.specs.declared.rules.Rule.the-variants.{Sink, Grow, Hint};
 use super::Pending;
 use super::Rule;
 use crate::limit_pushdown::sink_cells;
@@ -106,10 +107,9 @@ fn write_back(plan: &mut [Cell], work: &[Cell], answer: Result<usize, Fault>)
     }
 }
 
-/// One call of a rule. Granted, the plan table holds what the rule's steps give and blank cells behind it, and the answer is the new
-/// node count; refused, it is untouched. The lent memory is blank afterwards. Whatever the operators mean and store, as long as they
-/// keep the rules, each partition of the root has the same rows in the same order, and an accepted plan stays accepted, with as many
-/// partitions.
+/// One call of a rule. Granted, the plan table holds what the rule's steps give and blank cells behind it, and the answer is the new node count; refused, it
+/// is untouched. The lent memory is blank afterwards. Whatever the operators mean and store, as long as they keep the rules, each
+/// partition of the root has the same rows in the same order, and an accepted plan stays accepted, with as many partitions.
 pub fn call<O: OperatorSet>(
     rule: Rule,
     set: &O,
@@ -119,12 +119,10 @@ pub fn call<O: OperatorSet>(
     requirements: &mut [Pending],
     facts: &mut [Fact],
 ) -> Result<usize, Fault>
-    ensures answer { λ r. ⌜ r ≡ counted (call-answer (O·OperatorSet .answers (now (set .entry))) rule (now (plan .entry)) count (lent-of (length (now (work .entry))) (length (now (requirements .entry))) (length (now (facts .entry))))) ⌝ }
-    ensures plan { λ _. ⌜ now (plan .exit) ≡ laid blank (call-answer (O·OperatorSet .answers (now (set .entry))) rule (now (plan .entry)) count (lent-of (length (now (work .entry))) (length (now (requirements .entry))) (length (now (facts .entry))))) (now (plan .entry)) ⌝ }
+    ensures called { λ r. ⌜ Called (O·OperatorSet .answers (now (set .entry))) rule (lent-of (length (now (work .entry))) (length (now (requirements .entry))) (length (now (facts .entry)))) count (now (plan .entry)) (now (plan .exit)) r ⌝ }
     ensures work { λ _. ⌜ now (work .exit) ≡ replicate (length (now (work .entry))) blank ⌝ }
     ensures requirements { λ _. ⌜ now (requirements .exit) ≡ replicate (length (now (requirements .entry))) blank-pending ⌝ }
     ensures facts { λ _. ⌜ now (facts .exit) ≡ replicate (length (now (facts .entry))) blank-fact ⌝ }
-    ensures pages { λ r. ⌜ Pages-kept (O·OperatorSet .answers (now (set .entry))) (take count (now (plan .entry))) (take (count-after r count) (now (plan .exit))) ⌝ }
 {
     let answer = compute(rule, set, plan, count, work, requirements, facts);
     write_back(plan, work, answer);
@@ -132,4 +130,67 @@ pub fn call<O: OperatorSet>(
     wipe(requirements, Pending::BLANK);
     wipe(facts, Fact::BLANK);
     answer
+}
+
+/// Limits go down a plan as far as they can. A granted call may give more nodes than a later call takes.
+///
+/// Granted, the plan table holds what the rule's steps give and blank cells behind it, and the answer is the new node count; refused, it
+/// is untouched. The lent memory is blank afterwards. Whatever the operators mean and store, as long as they keep the rules, each
+/// partition of the root has the same rows in the same order, and an accepted plan stays accepted, with as many partitions.
+pub fn sink<O: OperatorSet>(
+    set: &O,
+    plan: &mut [Cell],
+    count: usize,
+    work: &mut [Cell],
+    requirements: &mut [Pending],
+    facts: &mut [Fact],
+) -> Result<usize, Fault>
+    ensures called { λ r. ⌜ Called (O·OperatorSet .answers (now (set .entry))) Sink (lent-of (length (now (work .entry))) (length (now (requirements .entry))) (length (now (facts .entry)))) count (now (plan .entry)) (now (plan .exit)) r ⌝ }
+    ensures work { λ _. ⌜ now (work .exit) ≡ replicate (length (now (work .entry))) blank ⌝ }
+    ensures requirements { λ _. ⌜ now (requirements .exit) ≡ replicate (length (now (requirements .entry))) blank-pending ⌝ }
+    ensures facts { λ _. ⌜ now (facts .exit) ≡ replicate (length (now (facts .entry))) blank-fact ⌝ }
+{
+    call(Rule::Sink, set, plan, count, work, requirements, facts)
+}
+
+/// A limit goes past windows, grown by what they look ahead, to a sort or merge below them.
+///
+/// Granted, the plan table holds what the rule's steps give and blank cells behind it, and the answer is the new node count; refused, it
+/// is untouched. The lent memory is blank afterwards. Whatever the operators mean and store, as long as they keep the rules, each
+/// partition of the root has the same rows in the same order, and an accepted plan stays accepted, with as many partitions.
+pub fn grow<O: OperatorSet>(
+    set: &O,
+    plan: &mut [Cell],
+    count: usize,
+    work: &mut [Cell],
+    requirements: &mut [Pending],
+    facts: &mut [Fact],
+) -> Result<usize, Fault>
+    ensures called { λ r. ⌜ Called (O·OperatorSet .answers (now (set .entry))) Grow (lent-of (length (now (work .entry))) (length (now (requirements .entry))) (length (now (facts .entry)))) count (now (plan .entry)) (now (plan .exit)) r ⌝ }
+    ensures work { λ _. ⌜ now (work .exit) ≡ replicate (length (now (work .entry))) blank ⌝ }
+    ensures requirements { λ _. ⌜ now (requirements .exit) ≡ replicate (length (now (requirements .entry))) blank-pending ⌝ }
+    ensures facts { λ _. ⌜ now (facts .exit) ≡ replicate (length (now (facts .entry))) blank-fact ⌝ }
+{
+    call(Rule::Grow, set, plan, count, work, requirements, facts)
+}
+
+/// A limit becomes a hint on the distinct aggregates right below it.
+///
+/// Granted, the plan table holds what the rule's steps give and blank cells behind it, and the answer is the new node count; refused, it
+/// is untouched. The lent memory is blank afterwards. Whatever the operators mean and store, as long as they keep the rules, each
+/// partition of the root has the same rows in the same order, and an accepted plan stays accepted, with as many partitions.
+pub fn hint<O: OperatorSet>(
+    set: &O,
+    plan: &mut [Cell],
+    count: usize,
+    work: &mut [Cell],
+    requirements: &mut [Pending],
+    facts: &mut [Fact],
+) -> Result<usize, Fault>
+    ensures called { λ r. ⌜ Called (O·OperatorSet .answers (now (set .entry))) Hint (lent-of (length (now (work .entry))) (length (now (requirements .entry))) (length (now (facts .entry)))) count (now (plan .entry)) (now (plan .exit)) r ⌝ }
+    ensures work { λ _. ⌜ now (work .exit) ≡ replicate (length (now (work .entry))) blank ⌝ }
+    ensures requirements { λ _. ⌜ now (requirements .exit) ≡ replicate (length (now (requirements .entry))) blank-pending ⌝ }
+    ensures facts { λ _. ⌜ now (facts .exit) ≡ replicate (length (now (facts .entry))) blank-fact ⌝ }
+{
+    call(Rule::Hint, set, plan, count, work, requirements, facts)
 }

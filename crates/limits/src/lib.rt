@@ -5,7 +5,14 @@ mod limit_pushdown_past_window;
 mod limited_distinct_aggregation;
 mod pending;
 mod rules;
+mod running;
 mod sums;
 
+pub use calls::call;
+pub use calls::grow;
+pub use calls::hint;
+pub use calls::sink;
 pub use pending::Pending;
 pub use rules::Rule;
+pub use rules::RuleCall;
+pub use running::run;

@@ -1,4 +1,5 @@
-// The rules by their names.
+// The rules by their names, and calls of them.
+use plan::Fault;
 
 #[derive(Clone, Copy)]
 pub enum Rule {
@@ -8,4 +9,11 @@ pub enum Rule {
     Grow,
     /// A limit becomes a hint on distinct aggregates.
     Hint,
+}
+
+/// A call to make, and its answer once it is made: the new node count, or a fault.
+#[derive(Clone, Copy)]
+pub struct RuleCall {
+    pub rule: Rule,
+    pub answer: Option<Result<usize, Fault>>,
 }

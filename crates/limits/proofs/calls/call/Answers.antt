@@ -12,6 +12,8 @@ use Rattle.plan.specs.declared.cells.Cell.{Cell}
 use Rattle.plan.specs.declared.refusals.Fault.{Fault}
 use Rattle.plan.specs.Cells.{blank}
 use Rattle.plan.specs.Tables.{counted, laid}
+use Rattle.operators.specs.Rows.{Meaning}
+use Rattle.operators.specs.Rules.{Rules}
 use Rattle.limits.specs.Calls.{lent-of, call-answer, front-of}
 use Rattle.limits.specs.Laws.{count-after, Page-kept}
 use Rattle.limits.proofs.Keeping.{call-keeps}
@@ -32,13 +34,7 @@ returns g c =
     let front : front-of (c .compute-answer .last .work) (c .compute-answer .result) ≡ whole = c .compute-answer .ensures .answer in
     let answered : c .compute-answer .result ≡ counted whole = counted-front (c .compute-answer .last .work) (length (c .args .work .now)) (length table) (c .compute-answer .result) size (c .compute-answer .ensures .within) ∙ ap counted front in
     let written : c .write-back .last .plan ≡ laid blank whole table = c .write-back .ensures ∙ ap (λ (r : Result (List Cell) Fault). laid blank r table) front in
-    record {
-      answer = answered;
-      plan = written;
-      work = search needs;
-      requirements = search needs;
-      facts = search needs;
-      pages = λ m rules.
-          subst (λ (t : List Cell). Page-kept a m (take count table) (take (count-after (c .compute-answer .result) count) t)) (sym written)
-          (subst (λ (r : Result ℕ Fault). Page-kept a m (take count table) (take (count-after r count) (laid blank whole table))) (sym answered) (call-keeps a m rules (c .args .rule) table count lent));
-    }
+    let pages = λ (m : Meaning) (rules : Rules a m).
+    subst (λ (t : List Cell). Page-kept a m (take count table) (take (count-after (c .compute-answer .result) count) t)) (sym written)
+    (subst (λ (r : Result ℕ Fault). Page-kept a m (take count table) (take (count-after r count) (laid blank whole table))) (sym answered) (call-keeps a m rules (c .args .rule) table count lent)) in
+    record { called = record { answered = answered; written = written; pages = pages }; work = search needs; requirements = search needs; facts = search needs }

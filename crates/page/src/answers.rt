@@ -1,7 +1,9 @@
 // What there is to say of a plan.
+use crate::runs::show_run;
 use checks::Fact;
 use checks::check;
 use explain::describe;
+use limits::RuleCall;
 use operators::CatalogueAnswers;
 use operators::CatalogueSet;
 use plan::Cell;
@@ -16,7 +18,8 @@ use text::write_hex;
 use writing::depths;
 use writing::write_plan;
 
-fn reason(refusal: Refusal) -> &'static str {
+/// What a refusal means, in short.
+pub fn reason(refusal: Refusal) -> &'static str {
     match refusal {
         Refusal::Packed => "these bytes are no records",
         Refusal::Count => "a plan has 1 to 4096 nodes",
@@ -39,17 +42,9 @@ fn show_fault(rt: &LibcRuntime, fault: Fault) -> io::Result<()> {
     println!(rt, "  refused with {number} at {place}: {why}")
 }
 
-/// The front of a line of the tree: an arrow at the refused cell.
-fn margin(here: bool) -> &'static str {
-    if here {
-        return "> ";
-    }
-    "  "
-}
-
-fn show_cell(rt: &LibcRuntime, cell: &Cell, depth: usize, here: bool) -> io::Result<()> {
+/// A line of the tree, behind a front of two characters.
+pub fn show_cell(rt: &LibcRuntime, front: &str, cell: &Cell, depth: usize) -> io::Result<()> {
     let line = describe(rt.alloc(), cell)?;
-    let front = margin(here);
     print!(rt, "{front}")?;
     for _ in 0..depth {
         print!(rt, "  ")?;
@@ -57,12 +52,13 @@ fn show_cell(rt: &LibcRuntime, cell: &Cell, depth: usize, here: bool) -> io::Res
     println!(rt, "{line}")
 }
 
-/// A line for each cell, further in for each node that it stands below.
+/// A line for each cell, further in for each node that it stands below, with an arrow at the refused one.
 fn show_tree(rt: &LibcRuntime, cells: &[Cell], refused: Option<usize>) -> io::Result<()> {
     let levels = depths(rt.alloc(), cells)?;
     let mut place = 0usize;
     for (cell, depth) in cells.iter().zip(levels.iter()) {
-        show_cell(rt, cell, *depth, refused == Some(place))?;
+        let front = if refused == Some(place) { "> " } else { "  " };
+        show_cell(rt, front, cell, *depth)?;
         place = place.saturating_add(1);
     }
     Ok(())
@@ -73,20 +69,18 @@ fn check_cells(heap: Global, cells: &[Cell]) -> Result<Result<u64, Fault>, Alloc
     Ok(check(&CatalogueSet, cells, cells.len(), memory.as_mut_slice()))
 }
 
-/// The tree, with an arrow to the cell that is refused, and what the check answers.
-fn show_checked(rt: &LibcRuntime, cells: &[Cell]) -> io::Result<()> {
+/// The tree, with an arrow to the cell that is refused, and what the check answers: whether it is accepted.
+fn show_checked(rt: &LibcRuntime, cells: &[Cell]) -> io::Result<bool> {
     match check_cells(rt.alloc(), cells)? {
-        Ok(1) => {
-            show_tree(rt, cells, None)?;
-            println!(rt, "  accepted, 1 partition")
-        }
         Ok(partitions) => {
             show_tree(rt, cells, None)?;
-            println!(rt, "  accepted, {partitions} partitions")
+            println!(rt, "  accepted, partitions: {partitions}")?;
+            Ok(true)
         }
         Err(fault) => {
             show_tree(rt, cells, Some(fault.place))?;
-            show_fault(rt, fault)
+            show_fault(rt, fault)?;
+            Ok(false)
         }
     }
 }
@@ -103,20 +97,32 @@ fn show_bytes(rt: &LibcRuntime, cells: &[Cell]) -> io::Result<()> {
     }
 }
 
-/// A plan in the notation.
-pub fn show_plan(rt: &LibcRuntime, number: usize, cells: &[Cell]) -> io::Result<()> {
+/// A plan in the notation, and what the rules make of it.
+pub fn show_plan(
+    rt: &LibcRuntime,
+    number: usize,
+    cells: &[Cell],
+    calls: &mut [RuleCall],
+) -> io::Result<()> {
     let text = write_plan(rt.alloc(), cells)?;
     println!(rt, "plan {number}: {text}")?;
-    show_checked(rt, cells)?;
+    if show_checked(rt, cells)? {
+        show_run(rt, cells, calls)?;
+    }
     show_bytes(rt, cells)?;
     println!(rt, "")
 }
 
 /// A plan as packed bytes.
-pub fn show_packed(rt: &LibcRuntime, number: usize, bytes: &[u8]) -> io::Result<()> {
+pub fn show_packed(
+    rt: &LibcRuntime,
+    number: usize,
+    bytes: &[u8],
+    calls: &mut [RuleCall],
+) -> io::Result<()> {
     let mut table = vec![in rt.alloc(); Cell::BLANK; bytes.len() / 14]?;
     match unpack(bytes, table.as_mut_slice()) {
-        Ok(_) => show_plan(rt, number, table.as_slice()),
+        Ok(_) => show_plan(rt, number, table.as_slice(), calls),
         Err(fault) => {
             println!(rt, "plan {number}:")?;
             show_fault(rt, fault)?;

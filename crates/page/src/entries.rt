@@ -1,6 +1,10 @@
 // What a line of input holds.
+use crate::runs::rule_named;
+use limits::Rule;
+use limits::RuleCall;
 use notation::read_plan;
 use plan::Cell;
+use std::alloc::AllocError;
 use std::alloc::Global;
 use text::Slip;
 use text::read_hex;
@@ -12,6 +16,31 @@ pub enum Entry {
     Nothing,
     Plan(Vec<Cell>),
     Packed(Vec<u8>),
+}
+
+/// The plan, and the words behind `>`, which name the rules to call.
+pub fn split_rules(line: &str) -> (&str, Option<&str>) {
+    match line.split_once('>') {
+        Some((plan, rules)) => (plan, Some(rules)),
+        None => (line, None),
+    }
+}
+
+/// The rules to call: hint, sink and grow where none are named; a word that names no rule is passed over.
+pub fn read_calls(heap: Global, rules: Option<&str>) -> Result<Vec<RuleCall>, AllocError> {
+    let mut calls = Vec::new(heap);
+    let Some(words) = rules else {
+        for rule in [Rule::Hint, Rule::Sink, Rule::Grow] {
+            calls.push(RuleCall { rule, answer: None })?;
+        }
+        return Ok(calls);
+    };
+    for word in words.split_whitespace() {
+        if let Some(rule) = rule_named(word) {
+            calls.push(RuleCall { rule, answer: None })?;
+        }
+    }
+    Ok(calls)
 }
 
 pub fn read_entry(heap: Global, line: &str) -> Result<Entry, Slip> {

@@ -1,13 +1,17 @@
-// Reads saved plans from standard input, one a line, in the notation or as packed bytes. It draws each as a tree, says whether it is
-// accepted or which refusal it gets and where, and prints its packed bytes. Blank lines and lines that begin with `#` are passed over.
-// A line that cannot be read is named with its column, and the lines behind it are still served.
+// Reads saved plans from standard input, one a line, in the notation or as packed bytes; behind `>` may stand the rules to call. It draws
+// each plan as a tree, says whether it is accepted or which refusal it gets and where, calls the rules on it and draws what they leave,
+// and prints the packed bytes of the plan that came in. Blank lines and lines that begin with `#` are passed over. A line that cannot be
+// read is named with its column, and the lines behind it are still served.
 mod answers;
 mod entries;
+mod runs;
 
 use answers::show_packed;
 use answers::show_plan;
 use entries::Entry;
+use entries::read_calls;
 use entries::read_entry;
+use entries::split_rules;
 use std::io;
 use text::ProblemDisplay;
 use text::Slip;
@@ -32,10 +36,12 @@ fn show_slip(rt: &LibcRuntime, place: usize, line: &str, slip: Slip) -> io::Resu
 // Serves a line, and gives the number of the last plan that was read.
 fn serve(rt: &LibcRuntime, place: usize, line: &str, number: usize) -> io::Result<usize> {
     let next = number.saturating_add(1);
-    match read_entry(rt.alloc(), line) {
+    let (plan, rules) = split_rules(line);
+    let mut calls = read_calls(rt.alloc(), rules)?;
+    match read_entry(rt.alloc(), plan) {
         Ok(Entry::Nothing) => return Ok(number),
-        Ok(Entry::Plan(cells)) => show_plan(rt, next, &cells)?,
-        Ok(Entry::Packed(bytes)) => show_packed(rt, next, &bytes)?,
+        Ok(Entry::Plan(cells)) => show_plan(rt, next, &cells, calls.as_mut_slice())?,
+        Ok(Entry::Packed(bytes)) => show_packed(rt, next, &bytes, calls.as_mut_slice())?,
         Err(slip) => {
             show_slip(rt, place, line, slip)?;
             return Ok(number);

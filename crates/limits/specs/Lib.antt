@@ -2,3 +2,4 @@ pub mod Sums
 pub mod Pending
 pub mod Calls
 pub mod Laws
+pub mod Worked

@@ -7,6 +7,7 @@ mod pending;
 mod rules;
 mod running;
 mod sums;
+mod worked;
 
 pub use calls::call;
 pub use calls::grow;
@@ -16,3 +17,4 @@ pub use pending::Pending;
 pub use rules::Rule;
 pub use rules::RuleCall;
 pub use running::run;
+pub use worked::worked_plans;

@@ -2,26 +2,26 @@
 ghost use Rattle.rows.specs.Laws.{One-root, Grow-keeps-rows, Hint-keeps-rows, Grow-keeps-accepted, Hint-keeps-accepted};
 
 /// An accepted plan has one root.
-pub fn one_root()
+fn one_root()
     ensures { λ _. ⌜ One-root ⌝ }
 {}
 
 /// Grow keeps the rows of an accepted plan whose windows it does not refuse.
-pub fn grow_keeps_rows()
+fn grow_keeps_rows()
     ensures { λ _. ⌜ Grow-keeps-rows ⌝ }
 {}
 
 /// Hint keeps the rows of an accepted plan.
-pub fn hint_keeps_rows()
+fn hint_keeps_rows()
     ensures { λ _. ⌜ Hint-keeps-rows ⌝ }
 {}
 
 /// Grow keeps a plan accepted, if no sum is too large.
-pub fn grow_keeps_accepted()
+fn grow_keeps_accepted()
     ensures { λ _. ⌜ Grow-keeps-accepted ⌝ }
 {}
 
 /// Hint keeps a plan accepted, if no sum is too large.
-pub fn hint_keeps_accepted()
+fn hint_keeps_accepted()
     ensures { λ _. ⌜ Hint-keeps-accepted ⌝ }
 {}

@@ -7,8 +7,3 @@ pub use growing::Phase;
 pub use growing::TraverseState;
 pub use growing::Turn;
 pub use hinting::Handed;
-pub use laws::grow_keeps_accepted;
-pub use laws::grow_keeps_rows;
-pub use laws::hint_keeps_accepted;
-pub use laws::hint_keeps_rows;
-pub use laws::one_root;

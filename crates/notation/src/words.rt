@@ -13,21 +13,21 @@ use text::Problem;
 use text::is_blank;
 
 impl<'a> Cursor<'a> {
-    pub fn new(text: &'a [u8]) -> Cursor<'a>
+    pub(crate) fn new(text: &'a [u8]) -> Cursor<'a>
         ensures { λ r. ⌜ (now (r .text) ≡ now (text .entry)) × (r .place ≡ 0) ⌝ }
     {
         Cursor { text, place: 0 }
     }
 
     /// The place, counted from 1.
-    pub fn column(&self) -> usize
+    pub(crate) fn column(&self) -> usize
         ensures { λ r. ⌜ r ≡ now (self .entry) .place + 1 ⌝ }
     {
         self.place + 1
     }
 
     /// The byte at the cursor; none at the end.
-    pub fn peek(&self) -> Option<u8>
+    pub(crate) fn peek(&self) -> Option<u8>
         ensures value { λ r. ⌜ r ≡ first (drop (now (self .entry) .place) (now (now (self .entry) .text))) ⌝ }
         ensures within { λ r. ⌜ found r (λ _. now (self .entry) .place < length (now (now (self .entry) .text))) ⌝ }
     {
@@ -38,7 +38,7 @@ impl<'a> Cursor<'a> {
     }
 
     /// Steps over a byte, if it is this one.
-    pub fn take(&mut self, byte: u8) -> bool
+    pub(crate) fn take(&mut self, byte: u8) -> bool
         ensures onward { λ _. ⌜ Onward (now (self .entry)) (now (self .exit)) ⌝ }
         ensures moved { λ r. ⌜ now (self .exit) .place ≡ cond r (now (self .entry) .place + 1) (now (self .entry) .place) ⌝ }
         ensures value { λ r. ⌜ r ≡ begins byte (rest (now (self .entry))) ⌝ }
@@ -55,7 +55,7 @@ impl<'a> Cursor<'a> {
     }
 
     /// Steps over a byte that is due.
-    pub fn expect(&mut self, byte: u8, problem: Problem) -> Result<(), Problem>
+    pub(crate) fn expect(&mut self, byte: u8, problem: Problem) -> Result<(), Problem>
         ensures onward { λ _. ⌜ Onward (now (self .entry)) (now (self .exit)) ⌝ }
         ensures value { λ r. ⌜ parsed r (rest (now (self .exit))) ≡ due-at byte problem (rest (now (self .entry))) ⌝ }
     {
@@ -67,7 +67,7 @@ impl<'a> Cursor<'a> {
     }
 
     /// Steps over blanks.
-    pub fn skip_blanks(&mut self)
+    pub(crate) fn skip_blanks(&mut self)
         ensures onward { λ _. ⌜ Onward (now (self .entry)) (now (self .exit)) ⌝ }
         ensures past { λ _. ⌜ rest (now (self .exit)) ≡ past-blanks (rest (now (self .entry))) ⌝ }
     {
@@ -98,7 +98,7 @@ impl<'a> Cursor<'a> {
     }
 
     /// A number in digits, at most so large; the problem else.
-    pub fn number(&mut self, most: u64, problem: Problem) -> Result<u64, Problem>
+    pub(crate) fn number(&mut self, most: u64, problem: Problem) -> Result<u64, Problem>
         ensures onward { λ _. ⌜ Onward (now (self .entry)) (now (self .exit)) ⌝ }
         ensures some { λ r. ⌜ made r (λ n. (n ≤ most) × (now (self .entry) .place < now (self .exit) .place)) ⌝ }
         ensures value { λ r. ⌜ parsed r (rest (now (self .exit))) ≡ number-parsed most problem (rest (now (self .entry))) ⌝ }

@@ -13,7 +13,7 @@ pub struct Awaited {
 }
 
 impl Awaited {
-    pub fn new(heap: Global) -> Awaited
+    pub(crate) fn new(heap: Global) -> Awaited
         ensures { λ r. ⌜ awaiting r ≡ [] ⌝ }
     {
         Awaited {
@@ -22,14 +22,14 @@ impl Awaited {
     }
 
     /// How many nodes are open.
-    pub fn depth(&self) -> usize
+    pub(crate) fn depth(&self) -> usize
         ensures { λ r. ⌜ r ≡ length (awaiting (now (self .entry))) ⌝ }
     {
         self.counts.len()
     }
 
     /// A node opens that has so many children.
-    pub fn await_children(&mut self, children: u8) -> Result<(), AllocError>
+    pub(crate) fn await_children(&mut self, children: u8) -> Result<(), AllocError>
         ensures { λ r. ⌜ made r (λ _. awaiting (now (self .exit)) ≡ children ∷ awaiting (now (self .entry))) ⌝ }
     {
         self.counts.push(children)?;
@@ -37,7 +37,7 @@ impl Awaited {
     }
 
     /// A tree is complete. Gives how many nodes it completes.
-    pub fn complete(&mut self) -> usize
+    pub(crate) fn complete(&mut self) -> usize
         ensures after { λ _. ⌜ awaiting (now (self .exit)) ≡ after-tree (awaiting (now (self .entry))) ⌝ }
         ensures value { λ r. ⌜ r ≡ completes (awaiting (now (self .entry))) ⌝ }
     {

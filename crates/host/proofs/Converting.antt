@@ -23,11 +23,11 @@ use Rattle.records.proofs.Chunks.{length-packed}
 use Rattle.operators.specs.Catalogue.{catalogue}
 use Rattle.operators.specs.Rows.{Meaning}
 use Rattle.operators.specs.Rules.{Rules}
-use Rattle.checks.specs.Accepts.{count-answer, room-answer}
+use Rattle.checks.specs.Accepts.{count-answer, room-answer, Accepted}
 use Rattle.limits.specs.declared.rules.Rule.{Rule}
 use Rattle.limits.specs.Calls.{Lent, lent-of, call-answer}
 use Rattle.limits.specs.Laws.{count-after, Page-kept, Pages-kept, Called}
-use Rattle.host.specs.Host.{table-cells, scratch, size-answer, table-of, cells-answer, host-plan, host-answer, Unpacks, Bytes-kept}
+use Rattle.host.specs.Host.{table-cells, scratch, size-answer, table-of, cells-answer, host-plan, host-answer, Unpacks, Bytes-kept, Linked, last-of}
 
 -- what a count tells of the list that was counted
 
@@ -142,3 +142,33 @@ module _ (rule : Rule) (bytes : List ℕ) (room : ℕ) (table : List Cell) (coun
         new-unpacks = unpacks-wider (take (record-size * n) out) (length (take n after)) table-cells (take n after) small (ap (λ (k : ℕ). unpacking (take k out) (length (take n after))) (sym long) ∙ undone);
         pages = pages;
       }
+
+-- two packed plans in a row
+
+same-cells : (r : Result (List Cell) Fault) (x y : List Cell) → r ≡ Ok x → r ≡ Ok y → x ≡ y
+same-cells r x y e f = let z : _≡_ {A = Result (List Cell) Fault} (Ok x) (Ok y) = sym e ∙ f in cc
+
+next-kept : (x y z : List ℕ) → Bytes-kept x y → Bytes-kept y z → Bytes-kept x z
+next-kept x y z p q =
+    let same : p .after ≡ q .before = same-cells (unpacking y table-cells) (p .after) (q .before) (p .new-unpacks) (q .unpacks) in
+    let pages : Pages-kept catalogue (p .before) (q .before) = subst (Pages-kept catalogue (p .before)) same (p .pages) in
+    record {
+      before = p .before;
+      after = q .after;
+      unpacks = p .unpacks;
+      new-unpacks = q .new-unpacks;
+      pages = λ (m : Meaning) (rules : Rules catalogue m).
+          let first = pages m rules in
+          let second = q .pages m rules in
+          record {
+            rows-kept = second .rows-kept ∙ first .rows-kept;
+            shape-kept = λ (h : Accepted catalogue (p .before)).
+                let s = first .shape-kept h in
+                let t = second .shape-kept (s .accepted) in
+                record { accepted = t .accepted; partitions = t .partitions ∙ s .partitions };
+          };
+    }
+
+pub chains-keep : (bytes next : List ℕ) (more : List (List ℕ)) → Linked bytes (next ∷ more) → Bytes-kept bytes (last-of next more)
+chains-keep bytes next [] h = h .0
+chains-keep bytes next (b ∷ bs) h = next-kept bytes next (last-of b bs) (h .0) (chains-keep next b bs (h .1))

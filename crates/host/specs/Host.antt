@@ -80,3 +80,17 @@ pub record Bytes-kept (bytes new-bytes : List ℕ) : Type 0 where
   pub unpacks : Unpacks bytes before
   pub new-unpacks : Unpacks new-bytes after
   pub pages : Pages-kept catalogue before after
+
+-- packed plans one after another, each of which keeps the pages of the one before it: what granted calls leave, each called on what the last one left
+abbrev pub Linked : List ℕ → List (List ℕ) → Type 0
+Linked bytes [] = Unit {0}
+Linked bytes (next ∷ more) = Bytes-kept bytes next × Linked next more
+
+-- the last of packed plans
+abbrev pub last-of : List ℕ → List (List ℕ) → List ℕ
+last-of bytes [] = bytes
+last-of bytes (next ∷ more) = last-of next more
+
+-- after any number of granted calls, in any order, no page differs from those of the plan that came in first
+abbrev pub Chains-keep-pages : Type 0
+Chains-keep-pages = (bytes next : List ℕ) (more : List (List ℕ)) → Linked bytes (next ∷ more) → Bytes-kept bytes (last-of next more)

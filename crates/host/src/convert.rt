@@ -38,7 +38,7 @@ fn check_size(bytes: usize) -> Result<(), Fault>
     Ok(())
 }
 
-/// The same in lent memory. Refused, the output stays as it was.
+/// What `convert` does, in lent memory. Refused, the output stays as it was.
 fn convert_in(
     rule: Rule,
     plan: &[u8],

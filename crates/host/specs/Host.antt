@@ -90,7 +90,3 @@ Linked bytes (next ∷ more) = Bytes-kept bytes next × Linked next more
 abbrev pub last-of : List ℕ → List (List ℕ) → List ℕ
 last-of bytes [] = bytes
 last-of bytes (next ∷ more) = last-of next more
-
--- after any number of granted calls, in any order, no page differs from those of the plan that came in first
-abbrev pub Chains-keep-pages : Type 0
-Chains-keep-pages = (bytes next : List ℕ) (more : List (List ℕ)) → Linked bytes (next ∷ more) → Bytes-kept bytes (last-of next more)

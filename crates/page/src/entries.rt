@@ -13,7 +13,6 @@ const PACKED: &str = "packed";
 
 #[derive(Drop)]
 pub enum Entry {
-    Nothing,
     Plan(Vec<Cell>),
     Packed(Vec<u8>),
 }
@@ -26,7 +25,22 @@ pub fn split_rules(line: &str) -> (&str, Option<&str>) {
     }
 }
 
-/// The rules to call: hint, sink and grow where none are named; a word that names no rule is passed over.
+/// Whether a line holds nothing to be read.
+pub fn is_passed_over(line: &str) -> bool {
+    line.trim().is_empty() || line.starts_with('#')
+}
+
+/// The first word that names no rule.
+pub fn stray_word(rules: Option<&str>) -> Option<&str> {
+    for word in rules?.split_whitespace() {
+        if rule_named(word).is_none() {
+            return Some(word);
+        }
+    }
+    None
+}
+
+/// The rules to call: hint, sink and grow where none are named.
 pub fn read_calls(heap: Global, rules: Option<&str>) -> Result<Vec<RuleCall>, AllocError> {
     let mut calls = Vec::new(heap);
     let Some(words) = rules else {
@@ -44,9 +58,6 @@ pub fn read_calls(heap: Global, rules: Option<&str>) -> Result<Vec<RuleCall>, Al
 }
 
 pub fn read_entry(heap: Global, line: &str) -> Result<Entry, Slip> {
-    if line.trim().is_empty() || line.starts_with('#') {
-        return Ok(Entry::Nothing);
-    }
     let Some(hex) = line.strip_prefix(PACKED) else {
         return Ok(Entry::Plan(read_plan(heap, line)?));
     };

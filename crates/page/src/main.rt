@@ -1,7 +1,7 @@
 // Reads saved plans from standard input, one a line, in the notation or as packed bytes; behind `>` may stand the rules to call. It draws
 // each plan as a tree, says whether it is accepted or which refusal it gets and where, calls the rules on it and draws what they leave,
 // and prints the packed bytes of the plan that came in. Blank lines and lines that begin with `#` are passed over. A line that cannot be
-// read is named with its column, and the lines behind it are still served.
+// read is named with its column, one with a word that names no rule with that word, and the lines behind it are still served.
 mod answers;
 mod entries;
 mod runs;
@@ -9,9 +9,11 @@ mod runs;
 use answers::show_packed;
 use answers::show_plan;
 use entries::Entry;
+use entries::is_passed_over;
 use entries::read_calls;
 use entries::read_entry;
 use entries::split_rules;
+use entries::stray_word;
 use std::io;
 use text::ProblemDisplay;
 use text::Slip;
@@ -33,13 +35,25 @@ fn show_slip(rt: &LibcRuntime, place: usize, line: &str, slip: Slip) -> io::Resu
     println!(rt, "")
 }
 
+fn show_stray(rt: &LibcRuntime, place: usize, line: &str, word: &str) -> io::Result<()> {
+    println!(rt, "line {place}: {word} is not a rule; the rules are sink, grow and hint")?;
+    println!(rt, "  {line}")?;
+    println!(rt, "")
+}
+
 // Serves a line, and gives the number of the last plan that was read.
 fn serve(rt: &LibcRuntime, place: usize, line: &str, number: usize) -> io::Result<usize> {
+    if is_passed_over(line) {
+        return Ok(number);
+    }
     let next = number.saturating_add(1);
     let (plan, rules) = split_rules(line);
+    if let Some(word) = stray_word(rules) {
+        show_stray(rt, place, line, word)?;
+        return Ok(number);
+    }
     let mut calls = read_calls(rt.alloc(), rules)?;
     match read_entry(rt.alloc(), plan) {
-        Ok(Entry::Nothing) => return Ok(number),
         Ok(Entry::Plan(cells)) => show_plan(rt, next, &cells, calls.as_mut_slice())?,
         Ok(Entry::Packed(bytes)) => show_packed(rt, next, &bytes, calls.as_mut_slice())?,
         Err(slip) => {

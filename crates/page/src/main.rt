@@ -36,7 +36,10 @@ fn show_slip(rt: &LibcRuntime, place: usize, line: &str, slip: Slip) -> io::Resu
 }
 
 fn show_stray(rt: &LibcRuntime, place: usize, line: &str, word: &str) -> io::Result<()> {
-    println!(rt, "line {place}: {word} is not a rule; the rules are sink, grow and hint")?;
+    println!(
+        rt,
+        "line {place}: {word} is not a rule; the rules are sink, grow and hint"
+    )?;
     println!(rt, "  {line}")?;
     println!(rt, "")
 }

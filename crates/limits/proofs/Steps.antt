@@ -39,7 +39,11 @@ use Rattle.sinks.specs.Sink.{combined-fetch, past-limit, past-fetch, onward, sa
 use Rattle.sinks.proofs.Visiting.{visited-again}
 use Rattle.limits.specs.declared.limit_pushdown.Stepped.{Stepped}
 use Rattle.limits.specs.declared.pending.Pending.{Pending}
-use Rattle.limits.specs.Pending.{spread, fetch-in-range, In-range, Live, node-stepped, stepped-by, stepped, cells-of}
+use Rattle.limits.specs.Pending.{spread, fetch-in-range, In-range, Live, node-stepped, stepped-by, stepped}
+
+-- the cells that stand in a cell's place
+abbrev pub cells-of : Stepped → List Cell
+cells-of s = listOf (s .above) ++ listOf (s .node)
 
 -- a node's own facts on the stack are those that the steps ask
 module _ (a : Answers) where

@@ -26,9 +26,9 @@ use Rattle.rows.proofs.Passed.{Trees}
 use Rattle.sinks.specs.declared.requirements.GlobalRequirements.{GlobalRequirements}
 use Rattle.sinks.specs.Sink.{sunk, sink-sum, sink-sums-from}
 use Rattle.limits.specs.declared.limit_pushdown.Stepped.{Stepped}
-use Rattle.limits.specs.Pending.{In-range, fetch-in-range, stepped, cells-of}
+use Rattle.limits.specs.Pending.{In-range, fetch-in-range, stepped}
 use Rattle.limits.specs.Sums.{sum-answer}
-use Rattle.limits.proofs.Steps.{sunk-more, sums-more, range-stepped, trees-next}
+use Rattle.limits.proofs.Steps.{cells-of, sunk-more, sums-more, range-stepped, trees-next}
 
 abbrev refusing : Bool → ℕ → Result (Unit {0}) Fault
 refusing b p = cond b (refused-at Sum p) (Ok tt)

@@ -2,7 +2,6 @@
 use mathlib.Core.List.{List, [], _∷_, _++_}
 use Prim.Native.Nat.{ℕ, _≤_, _<_}
 use lib.ListN.{replicate}
-use Rattle.std.specs.Vec.{listOf}
 use Rattle.std.specs.declared.option.Option.{Option}
 use Rattle.std.specs.declared.option.Option.the-variants.{Some, None}
 use Rattle.plan.specs.declared.cells.Cell.{Cell}
@@ -17,6 +16,7 @@ use Rattle.limits.specs.declared.pending.Pending.{Pending}
 use Rattle.limits.specs.declared.limit_pushdown.Stepped.{Stepped}
 use mathlib.Core.Bool.{Bool, true, false}
 
+-- the blank entry: nothing is pending, and no subtree shares it
 abbrev pub blank-pending : Pending
 blank-pending = record { requirement = at-first; subtrees = 0 }
 
@@ -25,6 +25,7 @@ abbrev pub spread : List Pending → List GlobalRequirements
 spread [] = []
 spread (p ∷ ps) = replicate (p .subtrees) (p .requirement) ++ spread ps
 
+-- a fetch is not too large
 abbrev pub fetch-in-range : Option ℕ → Type 0
 fetch-in-range None = Unit {0}
 fetch-in-range (Some n) = n ≤ max-number
@@ -47,8 +48,6 @@ abbrev pub stepped-by : (limit : Bool) → Answers → GlobalRequirements → Ce
 stepped-by true a r c partitions child = record { above = None; node = None; next = past-limit r c child }
 stepped-by false a r c partitions child = node-stepped (visited a r c partitions)
 
+-- the same, where the cell says whether it is a limit
 abbrev pub stepped : Answers → GlobalRequirements → Cell → ℕ → Fact → Stepped
 stepped a r c partitions child = stepped-by (is-limit (c .kind)) a r c partitions child
-
-abbrev pub cells-of : Stepped → List Cell
-cells-of s = listOf (s .above) ++ listOf (s .node)

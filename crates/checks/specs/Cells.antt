@@ -24,6 +24,7 @@ use Rattle.checks.specs.declared.single.Single.the-variants.{OfFit, OfFields, 
 abbrev pub fit-cell : Answers → Cell → Bool
 fit-cell a c = fits-of a (c .kind) (c .parameter) (c .children)
 
+-- a number that may be missing is not too large
 abbrev pub small : Option ℕ → Bool
 small None = true
 small (Some n) = leb n max-number
@@ -40,6 +41,7 @@ placed-cell c = (eqb (c .skip) 0 || eqb (c .kind) global-limit) && (not (eqb (c 
 abbrev pub taken-cell : Answers → Cell → Bool
 taken-cell a c = (not (isSome (c .fetch)) || takes-fetch a (c .kind) (c .parameter)) && (not (c .mark) || takes-mark a (c .kind) (c .parameter))
 
+-- a cell passes the check on fields
 abbrev pub fields-cell : Answers → Cell → Bool
 fields-cell a c = small-cell c && placed-cell c && taken-cell a c
 
@@ -62,6 +64,7 @@ abbrev pub borne-out : Answers → Option Cell → ℕ → ℕ → Bool
 borne-out a None p h = false
 borne-out a (Some u) p h = limit-bears u (u .fetch) h || aggregate-bears a u (u .hint) p h
 
+-- a cell passes the check on hints, below the cell before it
 abbrev pub hint-cell : Answers → Option Cell → Cell → Option ℕ → Bool
 hint-cell a before c None = true
 hint-cell a before c (Some h) = a .plain-distinct (c .parameter) && borne-out a before (c .parameter) h
@@ -72,6 +75,7 @@ passes-check a OfFit before c = fit-cell a c
 passes-check a OfFields before c = fields-cell a c
 passes-check a OfHints before c = hint-cell a before c (c .hint)
 
+-- what a check that looks at single cells refuses with
 abbrev pub refusal-of : Single → Refusal
 refusal-of OfFit = Fit
 refusal-of OfFields = Fields
@@ -82,5 +86,6 @@ abbrev pub singly-from : Answers → Single → Option Cell → ℕ → List Cel
 singly-from a s before at [] = Ok tt
 singly-from a s before at (c ∷ cs) = cond (passes-check a s before c) (singly-from a s (Some c) (at + 1) cs) (refused-at (refusal-of s) at)
 
+-- one such check over the whole plan
 abbrev pub singly : Answers → Single → List Cell → Result (Unit {0}) Fault
 singly a s cells = singly-from a s None 0 cells

@@ -19,14 +19,17 @@ use Rattle.checks.specs.declared.facts.KnownRows.the-variants.{Unknown, NoRow,
 use Rattle.checks.specs.declared.facts.Fact.{Fact}
 use Rattle.checks.specs.declared.facts.Children.{Children}
 
+-- the blank entry of the fact stack
 abbrev pub blank-fact : Fact
 blank-fact = record { size = 0; partitions = 0; rows = Unknown }
 
+-- a subtree is known to have no row
 abbrev pub is-empty : KnownRows → Bool
 is-empty Unknown = false
 is-empty NoRow = true
 is-empty OneRow = false
 
+-- the fact of the first subtree; the blank one if there is none
 abbrev pub head-fact : List Fact → Fact
 head-fact [] = blank-fact
 head-fact (f ∷ fs) = f

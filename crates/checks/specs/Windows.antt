@@ -16,6 +16,7 @@ use Rattle.operators.specs.declared.answers.WindowExpr.{WindowExpr}
 use Rattle.operators.specs.Answers.{Answers}
 use Rattle.operators.specs.Windows.{all-reach, following-of, relative-of}
 
+-- an effect counts from the start of the rows
 abbrev pub is-absolute : LimitEffect → Bool
 is-absolute None = false
 is-absolute Unknown = false
@@ -44,5 +45,6 @@ abbrev pub windows-from : Answers → ℕ → ℕ → List Cell → Result (Unit
 windows-from a below at [] = Ok tt
 windows-from a below at (c ∷ cs) = cond (window-refused a below c) (refused-at Windows at) (windows-from a (below-after a below c) (at + 1) cs)
 
+-- the check on windows over the whole plan
 abbrev pub windows-answer : Answers → List Cell → Result (Unit {0}) Fault
 windows-answer a cells = windows-from a 0 0 cells

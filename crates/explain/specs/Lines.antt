@@ -41,6 +41,7 @@ parameter-label k = cond (eqb k bounded-window-agg) (codes "window=") (cond (eqb
 abbrev pub shows-parameter : ℕ → Bool
 shows-parameter k = (eqb k bounded-window-agg || eqb k aggregate) || (eqb k 16 || eqb k 20)
 
+-- the parameter, where it is not 0 or its operator always shows it
 abbrev pub parameter-text : Cell → List ℕ
 parameter-text c = cond (eqb (c .parameter) 0 && not (shows-parameter (c .kind))) [] (parameter-label (c .kind) ++ decimal (c .parameter))
 
@@ -53,10 +54,12 @@ abbrev pub fetch-text : Option ℕ → ℕ → List ℕ
 fetch-text None k = cond (is-limit k) (codes "fetch=None") []
 fetch-text (Some n) k = cond (eqb k sort) (codes "TopK(fetch=" ++ (decimal n ++ codes ")")) (codes "fetch=" ++ decimal n)
 
+-- the hint of an aggregate
 abbrev pub hint-text : Option ℕ → List ℕ
 hint-text None = []
 hint-text (Some n) = codes "lim=[" ++ (decimal n ++ codes "]")
 
+-- the mark that order must be kept
 abbrev pub mark-text : Bool → List ℕ
 mark-text mark = cond mark (codes "ordered") []
 

@@ -28,6 +28,7 @@ pub record Lent : Type 0 where
   pub requirements : ℕ
   pub facts : ℕ
 
+-- memory with so many entries in each part
 abbrev pub lent-of : ℕ → ℕ → ℕ → Lent
 lent-of work requirements facts = record { work = work; requirements = requirements; facts = facts }
 

@@ -40,14 +40,17 @@ A p h = cell 9 1 p None h 0
 abbrev pub H : ℕ → Option ℕ → Cell
 H p f = cell 16 0 p f None 0
 
+-- a rule, a plan, and what the rule leaves of it
 pub record Worked : Type 0 where
   pub rule : Rule
   pub plan : List Cell
   pub left : List Cell
 
+-- a row of the table
 abbrev pub worked : Rule → List Cell → List Cell → Worked
 worked r p l = record { rule = r; plan = p; left = l }
 
+-- the table
 abbrev pub worked-plans : List Worked
 worked-plans =
     worked Sink (G 2 (Some 5) ∷ P ∷ H 1 None ∷ []) (P ∷ G 2 (Some 5) ∷ H 1 (Some 7) ∷ [])

@@ -38,6 +38,7 @@ last-limit-at xs =
     cond (begins 45 xs) (then (due-at 41 ExpectedClosing (tail xs)) (λ _ zs. Ok (None, zs)))
     (then (amount-at xs) (λ n ys. then (due-at 41 ExpectedClosing ys) (λ _ zs. Ok (Some n, zs))))
 
+-- a skip and a fetch
 abbrev pub limits-of : ℕ → Option ℕ → Limits
 limits-of s f = record { skip = s; fetch = f }
 

@@ -32,6 +32,7 @@ union = 18
 abbrev pub repartition : ℕ
 repartition = 20
 
+-- an expression with this effect, unit and end
 abbrev pub expr : LimitEffect → FrameUnits → FrameBound → WindowExpr
 expr f u b = record { effect = f; units = u; «end_bound» = b }
 
@@ -54,6 +55,7 @@ windows =
 abbrev pub counts-partitions : ℕ → Bool
 counts-partitions p = leb 1 p && leb p 64
 
+-- which parameters and child counts fit, for each kind
 abbrev pub catalogue-fits : ℕ → ℕ → ℕ → Bool
 catalogue-fits k p n =
     cond (eqb k bounded-window-agg) (ltb p 6)
@@ -62,6 +64,7 @@ catalogue-fits k p n =
     (cond (eqb k filter) (eqb n 1)
     (cond (eqb k union) (leb 1 n && leb n 63) (cond (eqb k repartition) (eqb n 1 && counts-partitions p) false)))))
 
+-- the answers of the catalogue set
 abbrev pub catalogue : Answers
 catalogue = record {
   fits = catalogue-fits;

@@ -26,6 +26,7 @@ use Rattle.operators.specs.declared.declarations.Declaration.{Declaration}
 use Rattle.operators.specs.Answers.{Answers}
 use Rattle.operators.specs.Catalogue.{unknown-window}
 
+-- one for each kind from 16 to 255
 abbrev pub max-declarations : ℕ
 max-declarations = 240
 
@@ -34,10 +35,12 @@ abbrev pub look-up : List Declaration → ℕ → Option Declaration
 look-up [] k = None
 look-up (d ∷ ds) k = cond (eqb (d .kind) k) (Some d) (look-up ds k)
 
+-- a kind was found in the list
 abbrev pub is-declared : Option Declaration → Bool
 is-declared None = false
 is-declared (Some d) = true
 
+-- a shape hands on each row of its children
 abbrev pub is-row-for-row : Shape → Bool
 is-row-for-row Source = false
 is-row-for-row RowForRow = true
@@ -57,18 +60,21 @@ declared-from earlier at (d ∷ ds) = cond (is-refused earlier d) (refused-at Re
 abbrev pub declared-answer : List Declaration → Result (Unit {0}) Fault
 declared-answer ds = cond (ltb max-declarations (length ds)) (refused-at RefusedDeclaration max-declarations) (declared-from [] 0 ds)
 
+-- which child counts fit a shape
 abbrev pub fits-shape : Shape → ℕ → Bool
 fits-shape Source n = eqb n 0
 fits-shape RowForRow n = leb 1 n && leb n 63
 fits-shape EachPartition n = eqb n 1
 fits-shape Gathering n = leb 1 n && leb n 63
 
+-- whether limits pass a shape
 abbrev pub passes-shape : Shape → LimitsPass
 passes-shape Source = No
 passes-shape RowForRow = Passes
 passes-shape EachPartition = No
 passes-shape Gathering = No
 
+-- how many partitions a shape has, where the declaration says n
 abbrev pub partitions-shape : Shape → ℕ → PartitionCount
 partitions-shape Source n = Fixed n
 partitions-shape RowForRow n = Sum
@@ -95,6 +101,7 @@ declared-answers ds = record {
   plain-distinct = λ p. false;
 }
 
+-- a shape has no children
 abbrev pub is-source : Shape → Bool
 is-source Source = true
 is-source RowForRow = false

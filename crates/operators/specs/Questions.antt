@@ -29,6 +29,7 @@ fits-kind a k p n =
 abbrev pub fits-of : Answers → ℕ → ℕ → ℕ → Bool
 fits-of a k p n = leb n max-children && leb p max-parameter && fits-kind a k p n
 
+-- an answer lets limits pass
 abbrev pub passes : LimitsPass → Bool
 passes No = false
 passes RowForRow = true
@@ -53,6 +54,7 @@ effect-of a k p = cond (ltb k first-operator) (cond (leb projection k && leb k s
 abbrev pub one-partition : ℕ → Bool
 one-partition k = leb k global-limit || eqb k coalesce-partitions || eqb k sort-preserving-merge
 
+-- a node's partitions, if its children have so many together
 abbrev pub count-by : PartitionCount → ℕ → ℕ
 count-by Sum total = total
 count-by (Fixed n) total = n
@@ -61,6 +63,7 @@ count-by (Fixed n) total = n
 abbrev pub partitions-of : Answers → ℕ → ℕ → ℕ → ℕ
 partitions-of a k p total = cond (ltb k first-operator) (cond (one-partition k) 1 total) (count-by (a .partitions k p) total)
 
+-- a node is known empty, given whether all its children are
 abbrev pub empty-by : KnownEmpty → Bool → Bool
 empty-by Never all = false
 empty-by Always all = true

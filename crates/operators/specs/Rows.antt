@@ -10,6 +10,7 @@ use Rattle.std.specs.declared.option.Option.the-variants.{Some, None}
 use Rattle.plan.specs.declared.cells.Cell.{Cell}
 use Rattle.plan.specs.Kinds.{is-limit, coalesce-partitions}
 
+-- a row is a list of numbers
 abbrev pub Row : Type 0
 Row = List ℤ
 
@@ -30,6 +31,7 @@ abbrev pub cut : Option ℕ → List Row → List Row
 cut None rows = rows
 cut (Some n) rows = take n rows
 
+-- lists put one after another
 abbrev pub concat : {A : Type 0} → List (List A) → List A
 concat [] = []
 concat (x ∷ xs) = x ++ concat xs
@@ -40,6 +42,7 @@ made-by true coalesces m c below = map (drop (c .skip)) (concat below)
 made-by false true m c below = concat (concat below) ∷ []
 made-by false false m c below = m (c .kind) (c .parameter) (c .mark) (c .hint) below
 
+-- the rows that a node makes of those below it
 abbrev pub made : Meaning → Cell → List Partitions → Partitions
 made m c below = made-by (is-limit (c .kind)) (eqb (c .kind) coalesce-partitions) m c below
 

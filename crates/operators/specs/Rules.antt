@@ -25,10 +25,12 @@ Agree n ps qs = map (take n) ps ≡ map (take n) qs
 abbrev pub At-most : ℕ → Partitions → Type 0
 At-most n ps = map (take n) ps ≡ ps
 
+-- numbers added up
 abbrev pub sum : List ℕ → ℕ
 sum [] = 0
 sum (n ∷ ns) = n + sum ns
 
+-- all of them hold
 abbrev pub all-true : List Bool → Bool
 all-true [] = true
 all-true (b ∷ bs) = b && all-true bs
@@ -44,12 +46,14 @@ Known-true [] cs = Unit {0}
 Known-true (e ∷ es) [] = ⊥
 Known-true (e ∷ es) (c ∷ cs) = (e ≡ true → At-most 0 c) × Known-true es cs
 
+-- two numbers are equal
 abbrev pub same-number : ℤ → ℤ → Bool
 same-number (pos m) (pos n) = eqb m n
 same-number (pos m) (negsuc n) = false
 same-number (negsuc m) (pos n) = false
 same-number (negsuc m) (negsuc n) = eqb m n
 
+-- two rows are equal
 abbrev pub same-row : Row → Row → Bool
 same-row [] [] = true
 same-row [] (y ∷ ys) = false

@@ -25,22 +25,26 @@ following-in CurrentRow = 0
 following-in (Following n) = n
 following-in Other = 0
 
+-- how many rows an effect looks ahead
 abbrev pub relative-in : LimitEffect → ℕ
 relative-in None = 0
 relative-in Unknown = 0
 relative-in (Relative n) = n
 relative-in (Absolute n) = 0
 
+-- a frame is counted in rows
 abbrev pub in-rows : FrameUnits → Bool
 in-rows Rows = true
 in-rows OtherUnits = false
 
+-- a frame ends at a known number of rows
 abbrev pub end-known : FrameBound → Bool
 end-known Preceding = true
 end-known CurrentRow = true
 end-known (Following n) = true
 end-known Other = false
 
+-- an effect is none or relative
 abbrev pub effect-known : LimitEffect → Bool
 effect-known None = true
 effect-known Unknown = false
@@ -51,6 +55,7 @@ effect-known (Absolute n) = false
 abbrev pub reaches : WindowExpr → Bool
 reaches e = in-rows (e .units) && effect-known (e .effect) && end-known (e .«end_bound»)
 
+-- every expression has a reach
 abbrev pub all-reach : List WindowExpr → Bool
 all-reach [] = true
 all-reach (e ∷ es) = reaches e && all-reach es
@@ -60,6 +65,7 @@ abbrev pub following-of : List WindowExpr → ℕ
 following-of [] = 0
 following-of (e ∷ es) = max (following-in (e .«end_bound»)) (following-of es)
 
+-- the farthest that any effect looks ahead
 abbrev pub relative-of : List WindowExpr → ℕ
 relative-of [] = 0
 relative-of (e ∷ es) = max (relative-in (e .effect)) (relative-of es)
@@ -75,6 +81,7 @@ number-in Unknown = 0
 number-in (Relative n) = n
 number-in (Absolute n) = n
 
+-- no number of an expression is too large
 abbrev pub Small : List WindowExpr → Type 0
 Small [] = Unit {0}
 Small (e ∷ es) = (number-in (e .effect) ≤ max-number) × (following-in (e .«end_bound») ≤ max-number) × Small es

@@ -5,6 +5,7 @@ use lib.Dec.{eqb, ltb}
 use Rattle.plan.specs.declared.kinds.Kind.{Kind}
 use Rattle.plan.specs.declared.kinds.Kind.the-variants.{Empty, PlaceholderRow, GlobalLimit, LocalLimit, Projection, CoalescePartitions, SortPreservingMerge, Sort, BoundedWindowAgg, Aggregate, Reserved, Operator}
 
+-- the numbers of the kinds; 10 to 15 are reserved
 abbrev pub empty : ℕ
 empty = 0
 
@@ -39,6 +40,7 @@ aggregate = 9
 abbrev pub first-operator : ℕ
 first-operator = 16
 
+-- the kind that a number stands for
 abbrev pub kind-of : ℕ → Kind
 kind-of k =
     cond (eqb k empty) Empty
@@ -51,5 +53,6 @@ kind-of k =
     (cond (eqb k sort) Sort
     (cond (eqb k bounded-window-agg) BoundedWindowAgg (cond (eqb k aggregate) Aggregate (cond (ltb k first-operator) Reserved Operator))))))))))
 
+-- a kind is one of the two limits
 abbrev pub is-limit : ℕ → Bool
 is-limit k = eqb k global-limit || eqb k local-limit

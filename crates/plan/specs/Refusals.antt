@@ -6,6 +6,7 @@ use Rattle.plan.specs.declared.refusals.Refusal.{Refusal}
 use Rattle.plan.specs.declared.refusals.Refusal.the-variants.{Packed, Count, Room, Tree, Fit, Fields, Partitions, Hints, Windows, Sum, Declaration}
 use Rattle.plan.specs.declared.refusals.Fault.{Fault}
 
+-- the number of each refusal
 abbrev pub number-of : Refusal → ℕ
 number-of Packed = 1
 number-of Count = 2

@@ -36,6 +36,7 @@ limits-text c =
 abbrev pub plus-text : Cell → List ℕ
 plus-text c = cond (eqb (c .kind) global-limit) [] (cond (eqb (c .skip) 0) [] (codes "+" ++ decimal (c .skip)))
 
+-- the mark
 abbrev pub mark-text : Cell → List ℕ
 mark-text c = cond (c .mark) (codes "!") []
 

@@ -8,5 +8,5 @@ pub returns : goal.returns
 returns g c =
     let a = g.O.OperatorSet.answers c.args.set.now in
     let cells = c.args.cells.now in
-    let root : c.fact-at.result ≡ head_fact (facts a cells) = c.fact-at.ensures ∙ ap head_fact c.check-partitions.ensures.facts ∙ head_every a cells in
+    let root : c.fact_at.result ≡ head_fact (facts a cells) = c.fact_at.ensures ∙ ap head_fact c.check_partitions.ensures.facts ∙ head_every a cells in
     search rules

@@ -45,5 +45,5 @@ loop-place-preserved g c =
       pushed ∙ whole,
       subst Bounded (sym pushed) (c.of-own.ensures.size, c.of-own.ensures.partitions, c.loop-place.invariant.3),
       counted_more a cells i p fs own c.loop-place.answer c.counted-answer.result more next behind whole c.loop-place.invariant.4
-          (c.counted-answer.ensures ∙ ap (λ (f : Fact). cond (miscounted (get_or cells i blank) own.partitions f.partitions) (refused_at Partitions i) c.loop-place.answer) c.fact-at-child.ensures),
+          (c.counted-answer.ensures ∙ ap (λ (f : Fact). cond (miscounted (get_or cells i blank) own.partitions f.partitions) (refused_at Partitions i) c.loop-place.answer) c.fact_at-child.ensures),
     )

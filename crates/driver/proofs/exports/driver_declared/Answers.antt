@@ -13,15 +13,15 @@ returns c =
     let rows = c.args.rows.now in
     let bytes = c.args.plan.now in
     let room = length c.args.out.now in
-    let after = c.convert-large.new.out in
-    let all : c.read-declarations-count.result - 0 ≡ c.read-declarations-count.result = omega arith in
-    let list : take (c.read-declarations-count.result - 0) c.read-declarations-count.new.declarations ≡ declarations_of rows =
-    ap (λ (n : ℕ). take n c.read-declarations-count.new.declarations) all ∙ c.read-declarations-count.ensures.declarations in
+    let after = c.convert_large.new.out in
+    let all : c.read_declarations-count.result - 0 ≡ c.read_declarations-count.result = omega arith in
+    let list : take (c.read_declarations-count.result - 0) c.read_declarations-count.new.declarations ≡ declarations_of rows =
+    ap (λ (n : ℕ). take n c.read_declarations-count.new.declarations) all ∙ c.read_declarations-count.ensures.declarations in
     let holds : c.read.new.self.declarations.now ≡ held (declarations_of rows) =
-    c.read.ensures.held ∙ ap (λ (r : Result (Unit {0}) Fault). cond (is_ok r) (take (c.read-declarations-count.result - 0) c.read-declarations-count.new.declarations) []) c.read.ensures.answer ∙ ap held list in
+    c.read.ensures.held ∙ ap (λ (r : Result (Unit {0}) Fault). cond (is_ok r) (take (c.read_declarations-count.result - 0) c.read_declarations-count.new.declarations) []) c.read.ensures.answer ∙ ap held list in
     let rule : c.rule_of.result ≡ rule_of c.args.rule = c.rule_of.ensures in
-    let answer : c.convert-large.result ≡ to_z w32 (of_z w32 c.convert-large.result) = search rules in
-    let named : PackedCalled (declared_answers (held (declarations_of rows))) 4096 (rule_of c.args.rule) bytes room after c.convert-large.result =
-    subst (λ (ds : List Declaration). PackedCalled (declared_answers ds) 4096 (rule_of c.args.rule) bytes room after c.convert-large.result) holds
-    (subst (λ (r : Rule). PackedCalled (declared_answers c.read.new.self.declarations.now) 4096 r bytes room after c.convert-large.result) rule c.convert-large.ensures) in
+    let answer : c.convert_large.result ≡ to_z w32 (of_z w32 c.convert_large.result) = search rules in
+    let named : PackedCalled (declared_answers (held (declarations_of rows))) 4096 (rule_of c.args.rule) bytes room after c.convert_large.result =
+    subst (λ (ds : List Declaration). PackedCalled (declared_answers ds) 4096 (rule_of c.args.rule) bytes room after c.convert_large.result) holds
+    (subst (λ (r : Rule). PackedCalled (declared_answers c.read.new.self.declarations.now) 4096 r bytes room after c.convert_large.result) rule c.convert_large.ensures) in
     subst (λ (z : ℤ). PackedCalled (declared_answers (held (declarations_of rows))) 4096 (rule_of c.args.rule) bytes room after z) answer named

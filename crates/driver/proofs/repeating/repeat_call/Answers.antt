@@ -13,7 +13,7 @@ loop-turn-preserved c =
     let count = c.args.count in
     let lent = lent_of (length c.args.work.now) (length c.args.requirements.now) (length c.args.facts.now) in
     let same : lent_of (length c.loop-turn.work) (length c.loop-turn.requirements) (length c.loop-turn.facts) ≡ lent = λ i. lent_of (c.loop-turn.auto.work i) (c.loop-turn.auto.requirements i) (c.loop-turn.auto.facts i) in
-    let copied : c.copy-from-slice.new.self ≡ saved = c.copy-from-slice.ensures.after in
+    let copied : c.copy_from_slice.new.self ≡ saved = c.copy_from_slice.ensures.after in
     c.call_answer.ensures.called.answered
     ∙ ap (λ (t : List Cell). counted (call_answer catalogue rule t count (lent_of (length c.loop-turn.work) (length c.loop-turn.requirements) (length c.loop-turn.facts)))) copied
     ∙ ap (λ (l : Lent). counted (call_answer catalogue rule saved count l)) same

@@ -5,7 +5,7 @@ use Rattle.driver.proofs.repeating.repeat_on.Goals as goal
 
 pub returns : goal.returns
 returns c =
-    let count = c.in-ok-count.count in
+    let count = c.in_ok-count.count in
     let all : 2 * count - 0 ≡ 2 * count = omega arith in
-    repeated_plan c.args.times c.args.rule c.args.plan.now (replicate 8192 blank) c.unpack.new.table count _ _ _ _ c.repeat-call.result (search rules) (sym c.in-ok-count.was ∙ c.unpack.ensures.answer)
-    c.unpack.ensures.cells (omega arith) (ap (λ (n : ℕ). take n c.unpack.new.table) all) (search rules) (search rules) (search rules) c.repeat-call.ensures
+    repeated_plan c.args.times c.args.rule c.args.plan.now (replicate 8192 blank) c.unpack.new.table count _ _ _ _ c.repeat_call.result (search rules) (sym c.in_ok-count.was ∙ c.unpack.ensures.answer)
+    c.unpack.ensures.cells (omega arith) (ap (λ (n : ℕ). take n c.unpack.new.table) all) (search rules) (search rules) (search rules) c.repeat_call.ensures

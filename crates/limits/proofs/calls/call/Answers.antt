@@ -25,7 +25,7 @@ returns g c =
     let size : length c.args.work.now ≡ length c.compute-answer.new.work = search rules in
     let front : front_of c.compute-answer.new.work c.compute-answer.result ≡ whole = c.compute-answer.ensures.answer in
     let answered : c.compute-answer.result ≡ counted whole = counted_front c.compute-answer.new.work (length c.args.work.now) (length table) c.compute-answer.result size c.compute-answer.ensures.within ∙ ap counted front in
-    let written : c.write-back.new.plan ≡ laid blank whole table = c.write-back.ensures ∙ ap (λ (r : Result (List Cell) Fault). laid blank r table) front in
+    let written : c.write_back.new.plan ≡ laid blank whole table = c.write_back.ensures ∙ ap (λ (r : Result (List Cell) Fault). laid blank r table) front in
     let pages = λ (m : Meaning) (rules : Rules a m).
     subst (λ (t : List Cell). PageKept a m (take count table) (take (count_after c.compute-answer.result count) t)) (sym written)
     (subst (λ (r : Result ℕ Fault). PageKept a m (take count table) (take (count_after r count) (laid blank whole table))) (sym answered) (call_keeps a m rules c.args.rule table count lent)) in

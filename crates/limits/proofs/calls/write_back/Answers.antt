@@ -22,4 +22,4 @@ returns-in-Ok c =
     let work = c.args.work.now in
     let within : (c.in-Ok.count ≤ length work) × (c.in-Ok.count ≤ length c.args.plan.now) =
     subst (λ (r : Result ℕ Fault). IfOk r (λ n. (n ≤ length work) × (n ≤ length c.args.plan.now))) c.in-Ok.is c.requires in
-    laid_back c.args.plan.now work c.copy-from-slice.new.self c.wipe.new.items c.in-Ok.count c.args.answer within.0 c.in-Ok.is c.copy-from-slice.ensures.after c.wipe.ensures
+    laid_back c.args.plan.now work c.copy_from_slice.new.self c.wipe.new.items c.in-Ok.count c.args.answer within.0 c.in-Ok.is c.copy_from_slice.ensures.after c.wipe.ensures

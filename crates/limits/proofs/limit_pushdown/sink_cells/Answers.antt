@@ -16,8 +16,8 @@ use Rattle.limits.proofs.Steps.{sunk_more, sums_more, range_stepped, fields_at, 
 use Rattle.limits.proofs.Turns.{rest_known, turn_refused, turn_range, turn_sums, turn_cells, turn_trees, at_most_one}
 use Rattle.limits.proofs.limit_pushdown.sink_cells.Goals as goal
 
-pub hand-down-requires : goal.hand-down-requires
-hand-down-requires g c =
+pub hand_down-requires : goal.hand_down-requires
+hand_down-requires g c =
     let cells = c.args.cells.now in
     let some = trees_within cells 1 (passed (g.O.OperatorSet.answers c.args.set.now) cells c.requires.accepted).tree in
     let free = room_left c.args.pending.now in
@@ -29,9 +29,9 @@ pub loop-place-init : goal.loop-place-init
 loop-place-init g c =
     let a = g.O.OperatorSet.answers c.args.set.now in
     let cells = c.args.cells.now in
-    let first : spread (content c.hand-down.new.pending) ≡ at_first ∷ [] = c.hand-down.ensures.given ∙ ap (λ (ps : List Pending). at_first ∷ spread ps) c.requires.pending in (
+    let first : spread (content c.hand_down.new.pending) ≡ at_first ∷ [] = c.hand_down.ensures.given ∙ ap (λ (ps : List Pending). at_first ∷ spread ps) c.requires.pending in (
       refl,
-      c.hand-down.ensures.live,
+      c.hand_down.ensures.live,
       subst (λ (rs : List GlobalRequirements). Trees (length rs) cells) (sym first) (passed a cells c.requires.accepted).tree,
       c.requires.facts,
       omega arith,
@@ -39,14 +39,14 @@ loop-place-init g c =
       ap (λ (rs : List GlobalRequirements). sink_sums_from a rs 0 cells) first,
     )
 
-pub next-requirement-requirement-requires : goal.next-requirement-requirement-requires
-next-requirement-requirement-requires g c =
+pub next_requirement-requirement-requires : goal.next_requirement-requirement-requires
+next_requirement-requirement-requires g c =
     let ps = content c.loop-place.pending in
     let t = trees_next c.args.cells.now c.loop-place.place (length (spread ps)) c.loop-place-test.true c.loop-place.invariant.2 in
     record { live = c.loop-place.invariant.1; some = spread_some ps t.0 }
 
-pub next-fact-own-requires : goal.next-fact-own-requires
-next-fact-own-requires g c =
+pub next_fact-own-requires : goal.next_fact-own-requires
+next_fact-own-requires g c =
     let a = g.O.OperatorSet.answers c.args.set.now in
     let rest = drop c.loop-place.place c.args.cells.now in
     let held = ap length c.loop-place.invariant.3 in
@@ -58,40 +58,40 @@ pub step-requires : goal.step-requires
 step-requires g c =
     let a = g.O.OperatorSet.answers c.args.set.now in
     let cells = c.args.cells.now in
-    record { pending = c.next-requirement-requirement.ensures.small; cell = (fields_at a cells c.loop-place.place (passed a cells c.requires.accepted).fields c.loop-place-test.true).0 }
+    record { pending = c.next_requirement-requirement.ensures.small; cell = (fields_at a cells c.loop-place.place (passed a cells c.requires.accepted).fields c.loop-place-test.true).0 }
 
-pub returns-in-err-above : goal.returns-in-err-above
-returns-in-err-above g c =
+pub returns-in_err-above : goal.returns-in_err-above
+returns-in_err-above g c =
     let a = g.O.OperatorSet.answers c.args.set.now in
     let cells = c.args.cells.now in
-    let fault = c.in-err-above.field-0.0 in
+    let fault = c.in_err-above.field-0.0 in
     let sums : sink_sums a cells ≡ Err fault =
     sym c.loop-place.invariant.6
-    ∙ turn_refused a cells c.loop-place.place c.loop-place-test.true (spread (content c.loop-place.pending)) (spread (content c.next-requirement-requirement.new.pending)) c.next-requirement-requirement.result c.next-requirement-requirement.ensures.taken
-    (content c.loop-place.known) (content c.next-fact-own.new.known) c.next-fact-own.result c.first-fact.result c.loop-place.invariant.3 c.next-fact-own.ensures c.first-fact.ensures
-    c.step.result c.step.ensures fault c.in-err-above.was in
+    ∙ turn_refused a cells c.loop-place.place c.loop-place-test.true (spread (content c.loop-place.pending)) (spread (content c.next_requirement-requirement.new.pending)) c.next_requirement-requirement.result c.next_requirement-requirement.ensures.taken
+    (content c.loop-place.known) (content c.next_fact-own.new.known) c.next_fact-own.result c.first_fact.result c.loop-place.invariant.3 c.next_fact-own.ensures c.first_fact.ensures
+    c.step.result c.step.ensures fault c.in_err-above.was in
     grind arith
 
-pub hand-down-requires-in-loop-place : goal.hand-down-requires-in-loop-place
-hand-down-requires-in-loop-place g c =
+pub hand_down-requires-in-loop-place : goal.hand_down-requires-in-loop-place
+hand_down-requires-in-loop-place g c =
     let a = g.O.OperatorSet.answers c.args.set.now in
     let cells = c.args.cells.now in
     let place = c.loop-place.place in
     let rs = spread (content c.loop-place.pending) in
-    let held = content c.next-requirement-requirement.new.pending in
+    let held = content c.next_requirement-requirement.new.pending in
     let fields = fields_at a cells place (passed a cells c.requires.accepted).fields c.loop-place-test.true in
     let within = trees_within (drop place cells) (length rs) c.loop-place.invariant.2 in
     let left = length-drop place cells in
-    let taken = ap length c.next-requirement-requirement.ensures.taken in
-    let few = spread_within held c.next-requirement-requirement.ensures.live in
-    let free = room_left c.next-requirement-requirement.new.pending in
-    let size = c.next-requirement-requirement.ensures.len ∙ c.loop-place.invariant.0 ∙ c.hand-down.ensures.len in
+    let taken = ap length c.next_requirement-requirement.ensures.taken in
+    let few = spread_within held c.next_requirement-requirement.ensures.live in
+    let free = room_left c.next_requirement-requirement.new.pending in
+    let size = c.next_requirement-requirement.ensures.len ∙ c.loop-place.invariant.0 ∙ c.hand_down.ensures.len in
     let enough = c.requires.room in
     record {
-      live = c.next-requirement-requirement.ensures.live;
-      small = turn_range a cells c.loop-place.place c.loop-place-test.true (spread (content c.loop-place.pending)) (spread (content c.next-requirement-requirement.new.pending)) c.next-requirement-requirement.result c.next-requirement-requirement.ensures.taken
-          (content c.loop-place.known) (content c.next-fact-own.new.known) c.next-fact-own.result c.first-fact.result c.loop-place.invariant.3 c.next-fact-own.ensures c.first-fact.ensures
-          c.step.result c.step.ensures c.in-ok-above.field-0 c.in-ok-above.was c.next-requirement-requirement.ensures.small fields.1;
+      live = c.next_requirement-requirement.ensures.live;
+      small = turn_range a cells c.loop-place.place c.loop-place-test.true (spread (content c.loop-place.pending)) (spread (content c.next_requirement-requirement.new.pending)) c.next_requirement-requirement.result c.next_requirement-requirement.ensures.taken
+          (content c.loop-place.known) (content c.next_fact-own.new.known) c.next_fact-own.result c.first_fact.result c.loop-place.invariant.3 c.next_fact-own.ensures c.first_fact.ensures
+          c.step.result c.step.ensures c.in_ok-above.field-0 c.in_ok-above.was c.next_requirement-requirement.ensures.small fields.1;
       room = λ h. omega arith;
     }
 
@@ -99,24 +99,24 @@ pub loop-place-preserved : goal.loop-place-preserved
 loop-place-preserved g c =
     let a = g.O.OperatorSet.answers c.args.set.now in
     let cells = c.args.cells.now in
-    let s = c.in-ok-above.field-0 in
-    let ok = c.in-ok-above.was in
-    let new = spread (content c.hand-down-in-loop-place.new.pending) in
-    let given = c.hand-down-in-loop-place.ensures.given in (
-      c.hand-down-in-loop-place.ensures.len ∙ c.next-requirement-requirement.ensures.len ∙ c.loop-place.invariant.0,
-      c.hand-down-in-loop-place.ensures.live,
-      turn_trees a cells c.loop-place.place c.loop-place-test.true (spread (content c.loop-place.pending)) (spread (content c.next-requirement-requirement.new.pending)) c.next-requirement-requirement.result c.next-requirement-requirement.ensures.taken
-          (content c.loop-place.known) (content c.next-fact-own.new.known) c.next-fact-own.result c.first-fact.result c.loop-place.invariant.3 c.next-fact-own.ensures c.first-fact.ensures
+    let s = c.in_ok-above.field-0 in
+    let ok = c.in_ok-above.was in
+    let new = spread (content c.hand_down-in-loop-place.new.pending) in
+    let given = c.hand_down-in-loop-place.ensures.given in (
+      c.hand_down-in-loop-place.ensures.len ∙ c.next_requirement-requirement.ensures.len ∙ c.loop-place.invariant.0,
+      c.hand_down-in-loop-place.ensures.live,
+      turn_trees a cells c.loop-place.place c.loop-place-test.true (spread (content c.loop-place.pending)) (spread (content c.next_requirement-requirement.new.pending)) c.next_requirement-requirement.result c.next_requirement-requirement.ensures.taken
+          (content c.loop-place.known) (content c.next_fact-own.new.known) c.next_fact-own.result c.first_fact.result c.loop-place.invariant.3 c.next_fact-own.ensures c.first_fact.ensures
           c.step.result c.step.ensures s ok new given c.loop-place.invariant.2,
-      rest_known a cells c.loop-place.place c.loop-place-test.true (spread (content c.loop-place.pending)) (spread (content c.next-requirement-requirement.new.pending)) c.next-requirement-requirement.result c.next-requirement-requirement.ensures.taken
-          (content c.loop-place.known) (content c.next-fact-own.new.known) c.next-fact-own.result c.first-fact.result c.loop-place.invariant.3 c.next-fact-own.ensures c.first-fact.ensures
+      rest_known a cells c.loop-place.place c.loop-place-test.true (spread (content c.loop-place.pending)) (spread (content c.next_requirement-requirement.new.pending)) c.next_requirement-requirement.result c.next_requirement-requirement.ensures.taken
+          (content c.loop-place.known) (content c.next_fact-own.new.known) c.next_fact-own.result c.first_fact.result c.loop-place.invariant.3 c.next_fact-own.ensures c.first_fact.ensures
           c.step.result c.step.ensures,
       (let one = at_most_one s.above in let two = at_most_one s.node in let n = c.put-count.ensures.count in let m = c.put-count-in-loop-place.ensures.count in let low = c.loop-place.invariant.4 in omega arith),
-      turn_cells a cells c.loop-place.place c.loop-place-test.true (spread (content c.loop-place.pending)) (spread (content c.next-requirement-requirement.new.pending)) c.next-requirement-requirement.result c.next-requirement-requirement.ensures.taken
-          (content c.loop-place.known) (content c.next-fact-own.new.known) c.next-fact-own.result c.first-fact.result c.loop-place.invariant.3 c.next-fact-own.ensures c.first-fact.ensures
+      turn_cells a cells c.loop-place.place c.loop-place-test.true (spread (content c.loop-place.pending)) (spread (content c.next_requirement-requirement.new.pending)) c.next_requirement-requirement.result c.next_requirement-requirement.ensures.taken
+          (content c.loop-place.known) (content c.next_fact-own.new.known) c.next_fact-own.result c.first_fact.result c.loop-place.invariant.3 c.next_fact-own.ensures c.first_fact.ensures
           c.step.result c.step.ensures s ok new (take c.loop-place.count c.loop-place.work) _ _ given c.put-count.ensures.cells c.put-count-in-loop-place.ensures.cells ∙ c.loop-place.invariant.5,
-      turn_sums a cells c.loop-place.place c.loop-place-test.true (spread (content c.loop-place.pending)) (spread (content c.next-requirement-requirement.new.pending)) c.next-requirement-requirement.result c.next-requirement-requirement.ensures.taken
-          (content c.loop-place.known) (content c.next-fact-own.new.known) c.next-fact-own.result c.first-fact.result c.loop-place.invariant.3 c.next-fact-own.ensures c.first-fact.ensures
+      turn_sums a cells c.loop-place.place c.loop-place-test.true (spread (content c.loop-place.pending)) (spread (content c.next_requirement-requirement.new.pending)) c.next_requirement-requirement.result c.next_requirement-requirement.ensures.taken
+          (content c.loop-place.known) (content c.next_fact-own.new.known) c.next_fact-own.result c.first_fact.result c.loop-place.invariant.3 c.next_fact-own.ensures c.first_fact.ensures
           c.step.result c.step.ensures s ok new given ∙ c.loop-place.invariant.6,
     )
 

@@ -5,9 +5,9 @@ use Rattle.std.proofs.lemmas.List.{append-nil}
 use Rattle.limits.proofs.Writes.{written_more}
 use Rattle.limits.proofs.limit_pushdown_past_window.walk_cells.Goals as goal
 
-pub returns-in-err-work : goal.returns-in-err-work
+pub returns-in_err-work : goal.returns-in_err-work
 unfolding grown grow_sums_from
-returns-in-err-work g c = grind (arith, cells_more)
+returns-in_err-work g c = grind (arith, cells_more)
 
 pub loop-place-preserved : goal.loop-place-preserved
 unfolding grown grow_sums_from

@@ -5,9 +5,9 @@ use Rattle.std.proofs.lemmas.List.{append-nil}
 use Rattle.limits.proofs.Writes.{written_more}
 use Rattle.limits.proofs.limited_distinct_aggregation.hint_cells.Goals as goal
 
-pub returns-in-err-sum : goal.returns-in-err-sum
+pub returns-in_err-sum : goal.returns-in_err-sum
 unfolding hinted hint_sums_from
-returns-in-err-sum g c = grind (arith, cells_more)
+returns-in_err-sum g c = grind (arith, cells_more)
 
 pub loop-place-preserved : goal.loop-place-preserved
 unfolding hinted hint_sums_from

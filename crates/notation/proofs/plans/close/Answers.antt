@@ -23,7 +23,7 @@ loop-cursor-preserved c =
     let after = ap (close_at (reverse (take n items))) (sym left) ∙ sym (close_blanks (reverse (take n items)) (rest c.take.new.self)) in (
       search rules,
       subst (λ (xs : List ℕ). All P xs) (sym cut) (All-take P _ _ c.loop-cursor.invariant.1),
-      c.loop-cursor.invariant.2 ∙ turn ∙ after ∙ sym (λ j. close_at (reverse (cut j)) (c.skip-blanks.ensures.past j)),
+      c.loop-cursor.invariant.2 ∙ turn ∙ after ∙ sym (λ j. close_at (reverse (cut j)) (c.skip_blanks.ensures.past j)),
     )
 
 pub returns-then-not-take : goal.returns-then-not-take
@@ -43,8 +43,8 @@ returns-then-not-take c =
       value = sibling_value _ c.sibling.result (get_or items n 0) (reverse items) (reverse (take n items)) (rest c.take.new.self) (rest c.sibling.new.cursor) (c.loop-cursor.invariant.2 ∙ ap (close_at (reverse items)) same) (innermost items n 0 long) said.parent said.comma said.left;
     }
 
-pub returns-then-is-none : goal.returns-then-is-none
-returns-then-is-none c =
+pub returns-then-is_none : goal.returns-then-is_none
+returns-then-is_none c =
     let none : vec_items c.loop-cursor.parents ≡ [] = nil_from_length _ (search rules) in
     let ended : first (rest c.loop-cursor.cursor) ≡ None = search rules in
     record {

@@ -5,14 +5,14 @@ use Rattle.records.proofs.octets.read_number.Goals as goal
 pub loop-byte-init : goal.loop-byte-init
 loop-byte-init c = (read_none c.args.bytes.now, omega arith)
 
-pub overflow-mul-number : goal.overflow-mul-number
-overflow-mul-number c =
+pub overflow_mul-number : goal.overflow_mul-number
+overflow_mul-number c =
     let i = c.loop-byte.byte-index in
     let h : c.loop-byte.number < 2 ^ 120 = room c.loop-byte.number i (omega arith) c.loop-byte.invariant.1 in
     omega arith
 
-pub overflow-add-number : goal.overflow-add-number
-overflow-add-number c =
+pub overflow_add-number : goal.overflow_add-number
+overflow_add-number c =
     let i = c.loop-byte.byte-index in
     let h : c.loop-byte.number < 2 ^ 120 = room c.loop-byte.number i (omega arith) c.loop-byte.invariant.1 in
     omega (arith, c.type-inv.bytes i)

@@ -12,19 +12,19 @@ tested : (bs : List ℕ) (i n : ℕ) (r t : Bool) → i < length bs / record_siz
     → sound (get_or (plan_values bs) i []) ≡ t
 tested bs i n r t h e s d = ap sound (values_at bs i h) ∙ ap (λ (k : ℕ). sound (cut layout k)) (sym e) ∙ sym s ∙ d
 
-pub returns-then-not-is-sound : goal.returns-then-not-is-sound
-returns-then-not-is-sound c =
+pub returns-then-not-is_sound : goal.returns-then-not-is_sound
+returns-then-not-is_sound c =
     let bs = c.args.bytes.now in
     let i = c.loop-place.place in
     let h = c.loop-place-test.true in
-    sym (c.loop-place.invariant ∙ pass_stop Packed sound (plan_values bs) i [] (omega (arith, length_values bs)) (tested bs i c.number-at.result c.is-sound.result _ h c.number-at.ensures c.is-sound.ensures c.if-not-is-sound.true))
+    sym (c.loop-place.invariant ∙ pass_stop Packed sound (plan_values bs) i [] (omega (arith, length_values bs)) (tested bs i c.number_at.result c.is_sound.result _ h c.number_at.ensures c.is_sound.ensures c.if-not-is_sound.true))
 
 pub loop-place-preserved : goal.loop-place-preserved
 loop-place-preserved c =
     let bs = c.args.bytes.now in
     let i = c.loop-place.place in
     let h = c.loop-place-test.true in
-    c.loop-place.invariant ∙ pass_more Packed sound (plan_values bs) i [] (omega (arith, length_values bs)) (tested bs i c.number-at.result c.is-sound.result _ h c.number-at.ensures c.is-sound.ensures c.if-not-is-sound.false)
+    c.loop-place.invariant ∙ pass_more Packed sound (plan_values bs) i [] (omega (arith, length_values bs)) (tested bs i c.number_at.result c.is_sound.result _ h c.number_at.ensures c.is_sound.ensures c.if-not-is_sound.false)
 
 pub returns : goal.returns
 returns c =

@@ -14,14 +14,14 @@ returns c =
     let cs = c.args.cells.now in
     let old = c.args.out.now in
     let room = length old in
-    let f : all_pass Fit fits 0 cs ≡ Ok tt = sym c.check-fit.ensures ∙ c.in-ok-check-fit.was in
-    let h : all_pass Fields in_range 0 cs ≡ Ok tt = sym c.check-range.ensures ∙ c.in-ok-check-range.was in
+    let f : all_pass Fit fits 0 cs ≡ Ok tt = sym c.check_fit.ensures ∙ c.in_ok-check_fit.was in
+    let h : all_pass Fields in_range 0 cs ≡ Ok tt = sym c.check_range.ensures ∙ c.in_ok-check_range.was in
     let granted : packing cs room ≡ Ok (packed_plan cs) = rw (le-ltb room (record_size * length cs) (omega arith), f, h) in
     let zeros : c.fill.new.self ≡ replicate room 0 = c.fill.ensures.after (λ y e. e) in
     let behind : drop (record_size * length cs) c.fill.new.self ≡ replicate (room - length (packed_plan cs)) 0 = rw (zeros, length_packed cs) (drop-replicate (record_size * length cs) room 0) in
-    let front : take (record_size * length cs) c.write-plan.new.out ≡ packed_plan cs = rw c.write-plan.ensures.bytes (take_at (packed_plan cs) (drop (record_size * length cs) c.fill.new.self) (record_size * length cs) (length_packed cs)) in
+    let front : take (record_size * length cs) c.write_plan.new.out ≡ packed_plan cs = rw c.write_plan.ensures.bytes (take_at (packed_plan cs) (drop (record_size * length cs) c.fill.new.self) (record_size * length cs) (length_packed cs)) in
     record {
       answer = sym (ap counted granted ∙ ap (λ (n : ℕ). Ok n) (length_packed cs));
-      bytes = c.write-plan.ensures.bytes ∙ ap (λ (t : List ℕ). packed_plan cs ++ t) behind ∙ sym (ap (λ (r : Result (List ℕ) Fault). laid 0 r old) granted);
-      undone = ap (λ (t : List ℕ). unpacking t (length cs)) front ∙ plan_forth cs c.write-plan.ensures.kinds f h;
+      bytes = c.write_plan.ensures.bytes ∙ ap (λ (t : List ℕ). packed_plan cs ++ t) behind ∙ sym (ap (λ (r : Result (List ℕ) Fault). laid 0 r old) granted);
+      undone = ap (λ (t : List ℕ). unpacking t (length cs)) front ∙ plan_forth cs c.write_plan.ensures.kinds f h;
     }

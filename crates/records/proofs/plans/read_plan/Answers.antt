@@ -15,7 +15,7 @@ loop-place-preserved c =
     let bs = c.args.bytes.now in
     let i = c.loop-place.place in
     let h : i < length bs / record_size = c.loop-place-test.true in
-    let here : get_or (map cell_of (plan_values bs)) i blank ≡ cell_of (cut layout c.number-at.result) = get_or-map cell_of (plan_values bs) i [] blank (omega (arith, length_values bs)) ∙ ap cell_of (values_at bs i h) ∙ ap (λ (n : ℕ). cell_of (cut layout n)) (sym c.number-at.ensures) in
+    let here : get_or (map cell_of (plan_values bs)) i blank ≡ cell_of (cut layout c.number_at.result) = get_or-map cell_of (plan_values bs) i [] blank (omega (arith, length_values bs)) ∙ ap cell_of (values_at bs i h) ∙ ap (λ (n : ℕ). cell_of (cut layout n)) (sym c.number_at.ensures) in
     lay_more (map cell_of (plan_values bs)) c.args.table.now c.loop-place.table i c.cell_of.result blank (omega (arith, length_cells bs)) (omega arith) c.loop-place.invariant (c.cell_of.ensures ∙ sym here)
 
 pub returns : goal.returns

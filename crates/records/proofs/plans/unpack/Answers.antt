@@ -22,14 +22,14 @@ returns c =
     let cells = map cell_of (plan_values bs) in
     let l : length cells ≡ n = length-map (plan_values bs) cell_of ∙ length_values bs in
     let whole : length bs % record_size ≡ 0 = omega arith in
-    let s : all_pass Packed sound 0 (plan_values bs) ≡ Ok tt = sym c.check-records.ensures ∙ c.in-ok-check-records.was in
+    let s : all_pass Packed sound 0 (plan_values bs) ≡ Ok tt = sym c.check_records.ensures ∙ c.in_ok-check_records.was in
     let granted : unpacking bs room ≡ Ok cells = rw (eq-eqb (length bs % record_size) 0 whole, s, le-ltb room n (omega arith)) in
     let blanks : c.fill.new.self ≡ replicate room blank = c.fill.ensures.after (λ y e. e) in
     let behind : drop n c.fill.new.self ≡ replicate (room - length cells) blank = rw (blanks, l) (drop-replicate n room blank) in
-    let front : take n c.read-plan.new.table ≡ cells = rw c.read-plan.ensures (take_at cells (drop n c.fill.new.self) n l) in
+    let front : take n c.read_plan.new.table ≡ cells = rw c.read_plan.ensures (take_at cells (drop n c.fill.new.self) n l) in
     let small : All (λ b. b < 256) bs = All-from_get_or (λ b. b < 256) bs 0 (λ k h. omega (arith, c.type-inv.bytes k)) in
     record {
       answer = sym (ap counted granted ∙ ap (λ (k : ℕ). Ok k) l);
-      cells = c.read-plan.ensures ∙ ap (λ (t : List Cell). cells ++ t) behind ∙ sym (ap (λ (r : Result (List Cell) Fault). laid blank r old) granted);
+      cells = c.read_plan.ensures ∙ ap (λ (t : List Cell). cells ++ t) behind ∙ sym (ap (λ (r : Result (List Cell) Fault). laid blank r old) granted);
       undone = ap (λ (t : List Cell). packing t (length bs)) front ∙ plan_back bs whole small s;
     }

@@ -12,12 +12,12 @@ loop-place-preserved c =
     let cs = c.args.cells.now in
     let out = c.loop-place.out in
     let i = c.loop-place.place in
-    let n = c.number-of.result in
+    let n = c.number_of.result in
     let h = c.loop-place-test.true in
     let size = part_size out i (omega arith) in
-    let written = c.write-number.ensures ∙ ap (λ (k : ℕ). cut (octets k) n) size ∙ ap (cut (octets record_size)) c.number-of.ensures.value in (
-      write_more cs c.args.out.now out c.write-number.new.out i h c.loop-place.invariant.0 written,
-      All-more (λ x. x.kind < 256) cs i blank h c.loop-place.invariant.1 c.number-of.ensures.kind,
+    let written = c.write_number.ensures ∙ ap (λ (k : ℕ). cut (octets k) n) size ∙ ap (cut (octets record_size)) c.number_of.ensures.value in (
+      write_more cs c.args.out.now out c.write_number.new.out i h c.loop-place.invariant.0 written,
+      All-more (λ x. x.kind < 256) cs i blank h c.loop-place.invariant.1 c.number_of.ensures.kind,
     )
 
 pub returns : goal.returns

@@ -4,10 +4,10 @@ use Rattle.std.proofs.lemmas.List.{at_drop_more, at_drop_all}
 use Rattle.text.specs.Hex.{hex_read, digit_of, is_blank}
 use Rattle.text.proofs.Pairs.{high_digit, low_digit, blank_between, none_between, none_within}
 use Rattle.text.proofs.hex.read_pairs.Goals as goal
-use Rattle.text.proofs.hex.read_pairs.Goals.{in-Some-Some+else-is-err, in-Some-None, in-None-None+else-not-is-blank}
+use Rattle.text.proofs.hex.read_pairs.Goals.{in-Some-Some+else-is_err, in-Some-None, in-None-None+else-not-is_blank}
 
-pub returns-then-not-is-blank : goal.returns-then-not-is-blank
-returns-then-not-is-blank c =
+pub returns-then-not-is_blank : goal.returns-then-not-is_blank
+returns-then-not-is_blank c =
     let i = c.loop-place.place in
     let xs = c.args.text.now in
     let bytes = vec_items c.loop-place.bytes in
@@ -33,17 +33,17 @@ loop-place-preserved c =
     let xs = c.args.text.now in
     let bytes = vec_items c.loop-place.bytes in
     let step = c.loop-place.invariant.0 ∙ at_drop_more (hex_read bytes c.loop-place.high i) xs i 0 c.loop-place-test.true in
-    elim c.match-digit-value.branch [
-      | in-Some-Some+else-is-err w ↦
+    elim c.match-digit_value.branch [
+      | in-Some-Some+else-is_err w ↦
           let known : digit_of (get_or xs i 0) ≡ Some w.in-Some-Some.low = cc in
           let turn = low_digit bytes w.in-Some-Some.high_digit i (get_or xs i 0) w.in-Some-Some.low (drop (i + 1) xs) known in
-          let pushed = chosen _ _ _ _ w.push.ensures.items w.if-is-err.ensures.negation in
+          let pushed = chosen _ _ _ _ w.push.ensures.items w.if-is_err.ensures.negation in
           (cc, search rules)
       | in-Some-None w ↦
           let known : digit_of (get_or xs i 0) ≡ Some w.in-Some-None.digit = cc in
           let turn = high_digit bytes i (get_or xs i 0) w.in-Some-None.digit (drop (i + 1) xs) known in
           (cc, search rules)
-      | in-None-None+else-not-is-blank w ↦
+      | in-None-None+else-not-is_blank w ↦
           let known : digit_of (get_or xs i 0) ≡ None = cc in
           let blank : is_blank (get_or xs i 0) ≡ true = cc in
           let turn = blank_between bytes i (get_or xs i 0) (drop (i + 1) xs) known blank in

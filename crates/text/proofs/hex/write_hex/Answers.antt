@@ -9,11 +9,11 @@ use Rattle.text.proofs.hex.write_hex.Goals as goal
 pub loop-byte-preserved : goal.loop-byte-preserved
 loop-byte-preserved c =
     let step = at_drop_more hex_text c.args.bytes.now c.loop-byte.byte-index 0 c.loop-byte-test.true in
-    let one = chosen _ _ _ _ c.push.ensures.bytes (ap is_ok c.in-ok-push.was) in
-    let two = chosen _ _ _ _ c.push-in-loop-byte.ensures.bytes (ap is_ok c.in-ok-push-2.was) in
-    let first = c.push.ensures.ascii c.digit-char.ensures.ascii in
-    let second = c.push-in-loop-byte.ensures.ascii c.digit-char-in-loop-byte.ensures.ascii in
-    let joined = two_more (string_bytes c.loop-byte.out) (hex_text (drop (c.loop-byte.byte-index + 1) c.args.bytes.now)) c.digit-char.result c.digit-char-in-loop-byte.result in
+    let one = chosen _ _ _ _ c.push.ensures.bytes (ap is_ok c.in_ok-push.was) in
+    let two = chosen _ _ _ _ c.push-in-loop-byte.ensures.bytes (ap is_ok c.in_ok-push-2.was) in
+    let first = c.push.ensures.ascii c.digit_char.ensures.ascii in
+    let second = c.push-in-loop-byte.ensures.ascii c.digit_char-in-loop-byte.ensures.ascii in
+    let joined = two_more (string_bytes c.loop-byte.out) (hex_text (drop (c.loop-byte.byte-index + 1) c.args.bytes.now)) c.digit_char.result c.digit_char-in-loop-byte.result in
     cc
 
 pub returns : goal.returns

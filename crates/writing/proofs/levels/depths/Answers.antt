@@ -13,9 +13,9 @@ loop-cell-preserved c =
     let old = vec_items c.loop-cell.depths in
     let rest = depths_from (after_cell (get_or cs i blank) before) (drop (i + 1) cs) in
     let step : depths_from before (drop i cs) ≡ length before ∷ rest = at_drop_more (depths_from before) cs i blank c.loop-cell-test.true in
-    let pushed = chosen _ _ _ _ c.push.ensures.items (ap is_ok c.in-ok-push.was) in
+    let pushed = chosen _ _ _ _ c.push.ensures.items (ap is_ok c.in_ok-push.was) in
     let joined = append_assoc old (length before ∷ []) rest in
-    let now_awaited = c.in-ok-follow.ensures in
+    let now_awaited = c.in_ok-follow.ensures in
     let known = c.loop-cell.invariant.0 in
     (cc, search rules)
 

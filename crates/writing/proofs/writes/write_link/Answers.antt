@@ -7,8 +7,8 @@ use Rattle.writing.proofs.writes.write_link.Goals as goal
 
 pub returns : goal.returns
 returns c =
-    let pushed = chosen _ _ _ _ c.push-str-2.ensures.bytes (ap is_ok c.in-ok-push-str-3.was) in
-    let closed = c.in-ok-write-closing.ensures in
-    let joined = two_pieces (string_bytes c.args.out.now) (replicate c.complete-completed.result 41) (codes ", ") (string_bytes c.write-closing.new.out) (string_bytes c.push-str-2.new.self) closed pushed in
+    let pushed = chosen _ _ _ _ c.push_str-2.ensures.bytes (ap is_ok c.in_ok-push_str-3.was) in
+    let closed = c.in_ok-write_closing.ensures in
+    let joined = two_pieces (string_bytes c.args.out.now) (replicate c.complete-completed.result 41) (codes ", ") (string_bytes c.write_closing.new.out) (string_bytes c.push_str-2.new.self) closed pushed in
     let text : replicate c.complete-completed.result 41 ++ codes ", " ≡ link_text c.args.children (awaiting c.args.awaited.now) = search rules in
     record { text = joined ∙ ap (λ (l : List ℕ). string_bytes c.args.out.now ++ l) text; after = search rules; due = search rules }

@@ -16,10 +16,10 @@ loop-cell-preserved c =
     let before = awaiting c.loop-cell.awaited in
     let out = string_bytes c.loop-cell.out in
     let gap : c.if-due.gap.now ≡ cond c.loop-cell.due [] (codes " | ") = search rules in
-    let one : string_bytes c.push-str.new.self ≡ out ++ cond c.loop-cell.due [] (codes " | ") = chosen _ _ _ _ c.push-str.ensures.bytes (ap is_ok c.in-ok-push-str.was) ∙ ap (λ (l : List ℕ). out ++ l) gap in
-    let node : c.as-str.result.now ≡ node_text cell = c.as-str.ensures.value ∙ c.in-ok-node.ensures in
-    let two : string_bytes c.push-str-in-loop-cell.new.self ≡ string_bytes c.push-str.new.self ++ node_text cell = chosen _ _ _ _ c.push-str-in-loop-cell.ensures.bytes (ap is_ok c.in-ok-push-str-2.was) ∙ ap (λ (l : List ℕ). string_bytes c.push-str.new.self ++ l) node in
-    let link = c.in-ok-due.ensures in
+    let one : string_bytes c.push_str.new.self ≡ out ++ cond c.loop-cell.due [] (codes " | ") = chosen _ _ _ _ c.push_str.ensures.bytes (ap is_ok c.in_ok-push_str.was) ∙ ap (λ (l : List ℕ). out ++ l) gap in
+    let node : c.as_str.result.now ≡ node_text cell = c.as_str.ensures.value ∙ c.in_ok-node.ensures in
+    let two : string_bytes c.push_str-in-loop-cell.new.self ≡ string_bytes c.push_str.new.self ++ node_text cell = chosen _ _ _ _ c.push_str-in-loop-cell.ensures.bytes (ap is_ok c.in_ok-push_str-2.was) ∙ ap (λ (l : List ℕ). string_bytes c.push_str.new.self ++ l) node in
+    let link = c.in_ok-due.ensures in
     let step = at_drop_more (written c.loop-cell.due before) cs i blank c.loop-cell-test.true in
     three_pieces out _ _ _ _ _ _ _ _ _ one two link.text (λ j. written (link.due j) (link.after j) (drop (i + 1) cs)) (ap (λ (l : List ℕ). out ++ l) (sym step) ∙ c.loop-cell.invariant)
 
@@ -28,5 +28,5 @@ returns c =
     let i = c.loop-cell.cell-index in
     let end = at_drop_all (written c.loop-cell.due (awaiting c.loop-cell.awaited)) c.args.cells.now i c.loop-cell-test.false in
     let mark : c.if-due-2.end.now ≡ cond c.loop-cell.due (codes "?") [] = search rules in
-    let pushed = chosen _ _ _ _ c.push-str-2.ensures.bytes (ap is_ok c.in-ok-push-str-3.was) in
+    let pushed = chosen _ _ _ _ c.push_str-2.ensures.bytes (ap is_ok c.in_ok-push_str-3.was) in
     pushed ∙ ap (λ (l : List ℕ). string_bytes c.loop-cell.out ++ l) (mark ∙ sym end) ∙ c.loop-cell.invariant

@@ -53,6 +53,10 @@ child_read m n place cs leaf r within room few p e h =
       short = omega (arith, r.short);
     }
 
+-- what was read of a text with the root alone
+pub leaf_read : (n : ℕ) (leaf : Cell) → Packs leaf → leaf.children ≡ 0 → 0 < n → ReadPlan n (leaf ∷ [])
+leaf_read n leaf p e h = record { packs = (p, tt); tree = rw e refl; some = omega arith; few = omega arith; short = omega arith }
+
 -- more bytes of the text
 pub more_bytes : (m n : ℕ) (cs : List Cell) → m ≤ n → ReadPlan m cs → ReadPlan n cs
 more_bytes m n cs h r = record { packs = r.packs; tree = r.tree; some = r.some; few = r.few; short = omega (arith, r.short) }

@@ -14,7 +14,7 @@ loop-turn-preserved c =
     let lent = lent_of (length c.args.work.now) (length c.args.requirements.now) (length c.args.facts.now) in
     let same : lent_of (length c.loop-turn.work) (length c.loop-turn.requirements) (length c.loop-turn.facts) ≡ lent = λ i. lent_of (c.loop-turn.auto.work i) (c.loop-turn.auto.requirements i) (c.loop-turn.auto.facts i) in
     let copied : c.copy_from_slice.new.self ≡ saved = c.copy_from_slice.ensures.after in
-    c.call_answer.ensures.called.answered
+    c.call-answer.ensures.called.answered
     ∙ ap (λ (t : List Cell). counted (call_answer catalogue rule t count (lent_of (length c.loop-turn.work) (length c.loop-turn.requirements) (length c.loop-turn.facts)))) copied
     ∙ ap (λ (l : Lent). counted (call_answer catalogue rule saved count l)) same
     ∙ sym (ap (λ (b : Bool). cond b (Ok count) (counted (call_answer catalogue rule saved count lent))) (ne_eqb (c.loop-turn.turn + 1) 0 (λ e. omega arith)))

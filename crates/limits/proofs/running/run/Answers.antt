@@ -37,13 +37,13 @@ loop-place-preserved g c =
     let requirements : length c.loop-place.requirements ≡ length c.wipe-2.new.items = ap length c.loop-place.invariant.2 ∙ length-replicate _ _ in
     let facts : length c.loop-place.facts ≡ length c.wipe-3.new.items = ap length c.loop-place.invariant.3 ∙ length-replicate _ _ in
     let same : lent_of (length c.loop-place.work) (length c.loop-place.requirements) (length c.loop-place.facts) ≡ lent = λ i. lent_of (work i) (requirements i) (facts i) in
-    let called = c.call_answer.ensures.called in (
-      run_more a lent c.args.calls.now c.loop-place.calls all c.loop-place.place c.loop-place.plan c.loop-place.nodes c.loop-place.invariant.0 more here c.call_answer.result c.call_answer.new.plan c.passed_on-nodes.result
+    let called = c.call-answer.ensures.called in (
+      run_more a lent c.args.calls.now c.loop-place.calls all c.loop-place.place c.loop-place.plan c.loop-place.nodes c.loop-place.invariant.0 more here c.call-answer.result c.call-answer.new.plan c.passed_on-nodes.result
           (called.answered ∙ ap (λ (l : Lent). counted (call_answer a (get_or c.loop-place.calls c.loop-place.place no_call).rule c.loop-place.plan c.loop-place.nodes l)) same)
           (called.written ∙ ap (λ (l : Lent). laid blank (call_answer a (get_or c.loop-place.calls c.loop-place.place no_call).rule c.loop-place.plan c.loop-place.nodes l) c.loop-place.plan) same) c.passed_on-nodes.ensures,
-      c.call_answer.ensures.work ∙ ap (λ n. replicate n blank) work,
-      c.call_answer.ensures.requirements ∙ ap (λ n. replicate n blank_pending) requirements,
-      c.call_answer.ensures.facts ∙ ap (λ n. replicate n blank_fact) facts,
+      c.call-answer.ensures.work ∙ ap (λ n. replicate n blank) work,
+      c.call-answer.ensures.requirements ∙ ap (λ n. replicate n blank_pending) requirements,
+      c.call-answer.ensures.facts ∙ ap (λ n. replicate n blank_fact) facts,
     )
 
 pub returns : goal.returns

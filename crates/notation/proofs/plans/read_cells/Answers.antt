@@ -7,7 +7,7 @@ use Rattle.notation.specs.Cursors.{rest, past_blanks}
 use Rattle.notation.specs.Nodes.{node_at}
 use Rattle.notation.specs.Plans.{Reached, root, child, next_at}
 use Rattle.notation.specs.Trees.{child_counted, ReadPlan}
-use Rattle.notation.proofs.Growth.{child_read}
+use Rattle.notation.proofs.Growth.{child_read, leaf_read}
 use Rattle.notation.proofs.plans.read_cells.Goals as goal
 
 pub next_parent-requires : goal.next_parent-requires
@@ -21,9 +21,10 @@ loop-parents-init c =
     let start : rest c.args.cursor.now ≡ text = ap (λ (n : ℕ). drop n c.args.cursor.now.text.now) c.requires ∙ sym same in
     let node : node_at (past_blanks text) ≡ Ok (leaf, rest c.node.new.self) = ap (λ (l : List ℕ). node_at (past_blanks l)) (sym start) ∙ ap node_at (sym c.skip_blanks.ensures.past) ∙ sym c.in_ok-node.ensures.value in
     let one : vec_items c.push.new.self ≡ leaf ∷ [] = chosen _ _ _ _ c.push.ensures.items (ap is_ok c.in_ok-push.was) ∙ ap (λ (l : List Cell). l ++ (leaf ∷ [])) c.new-cells.ensures.items in
-    let none : reverse (vec_items c.new-parents.result) ≡ [] = ap reverse c.new-parents.ensures.items in (
+    let none : reverse (vec_items c.new-parents.result) ≡ [] = ap reverse c.new-parents.ensures.items in
+    let read = c.in_ok-node.ensures.some in (
       search rules,
-      search rules,
+      subst (λ (cs : List Cell). ReadPlan c.node.new.self.place cs) (sym one) (leaf_read _ leaf read.0 read.1 (omega (arith, read.2))),
       search rules,
       subst (λ (cs : List Cell). Reached text cs (reverse (vec_items c.new-parents.result)) (rest c.node.new.self)) (sym one) (subst (λ (ps : List ℕ). Reached text (leaf ∷ []) ps (rest c.node.new.self)) (sym none) (root leaf (rest c.node.new.self) node)),
     )

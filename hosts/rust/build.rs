@@ -1,4 +1,4 @@
-// Links the proved library, which `rt staticlib host` writes in the repository's root.
+// Links the proved library, which `tools/staticlib host` writes in the repository's root.
 fn main() {
     let here = std::env::var("CARGO_MANIFEST_DIR").expect("cargo names the package's folder");
     let library = format!("{here}/../../target/staticlib");

@@ -1,4 +1,4 @@
-//! Links the proved libraries, which `rt staticlib` writes in the repository's root.
+//! Links the proved libraries, which `tools/staticlib` writes in the repository's root.
 
 use std::env;
 

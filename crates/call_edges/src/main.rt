@@ -1,4 +1,6 @@
 // Tries the calls of the rules at their edges, each with memory that is dirty before, and prints what each gets and leaves.
+#![tactic(auto)]
+
 use checks::Fact;
 use limits::{Pending, Rule, call};
 use operators::CatalogueSet;

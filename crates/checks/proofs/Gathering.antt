@@ -3,7 +3,7 @@ use Rattle.std.proofs.Common.{◌≡◌, ℕ, zero, suc, ◌+◌, ◌-◌, ◌*�
 use Rattle.std.proofs.lemmas.List.{drop-drop}
 use Rattle.checks.specs.declared.facts.Fact.{Fact}
 use Rattle.checks.specs.declared.facts.Children.{Children}
-use Rattle.checks.specs.Facts.{blank_fact, is_empty, head_fact, together, next_facts, Bounded}
+use Rattle.checks.specs.Facts.{is_empty, head_fact, together, next_facts, Bounded}
 
 abbrev pub joined : Children → Children → Children
 joined s t = record { size = s.size + t.size; partitions = s.partitions + t.partitions; empty = s.empty && t.empty }

@@ -2,7 +2,6 @@
 use Rattle.std.proofs.Common.{ℕ, ◌+◌, ◌-◌, ◌≤◌, Bool, true, false, cond, eqb, List, [], ◌∷◌, length, Some, None, Ok, Err, Option, Result, arith}
 use Rattle.plan.specs.declared.cells.Cell.{Cell}
 use Rattle.plan.specs.declared.refusals.Fault.{Fault}
-use Rattle.plan.specs.declared.refusals.Refusal.{Refusal}
 use Rattle.plan.specs.declared.refusals.Refusal.TheVariants.{Tree, Partitions, Windows}
 use Rattle.plan.specs.Refusals.{refused_at, then}
 use Rattle.operators.specs.Answers.{Answers}
@@ -12,7 +11,7 @@ use Rattle.checks.specs.Tree.{tree_from, tree_of}
 use Rattle.checks.specs.Cells.{passes_check, refusal_of, singly_from, singly}
 use Rattle.checks.specs.Facts.{head_fact, facts, miscounted, counted_from}
 use Rattle.checks.specs.Windows.{window_refused, below_after, windows_from, windows_answer}
-use Rattle.checks.specs.Accepts.{root_partitions, plan_answer}
+use Rattle.checks.specs.Accepts.{plan_answer}
 
 -- if it refuses, then at such a place at most
 abbrev pub Within : {A : Type 0} → ℕ → Result A Fault → Type 0

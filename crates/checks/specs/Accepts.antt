@@ -1,5 +1,5 @@
 -- The checks of a plan, each over the whole plan and in this order. Assumes nothing.
-use Rattle.std.specs.Prelude.{◌≡◌, ℕ, Bool, true, cond, ◌||◌, List, length, take, is_ok, Ok, Result, ◌==◌, nat_lt}
+use Rattle.std.specs.Prelude.{◌≡◌, ℕ, true, cond, ◌||◌, List, length, take, is_ok, Ok, Result, ◌==◌, nat_lt}
 use Rattle.plan.specs.declared.cells.Cell.{Cell}
 use Rattle.plan.specs.declared.refusals.Fault.{Fault}
 use Rattle.plan.specs.declared.refusals.Refusal.TheVariants.{Count, Room}

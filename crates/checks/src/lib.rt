@@ -1,4 +1,6 @@
 // The checks that a plan passes before any rule, each over the whole plan and in a fixed order.
+#![tactic(auto)]
+
 mod accepting;
 mod facts;
 mod shapes;

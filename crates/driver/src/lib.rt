@@ -1,5 +1,7 @@
 // Calls in C's convention for tests and measurements: under declared sets and under sets whose answers a table gives, on packed plans
 // of up to 4,096 nodes; and calls on cell tables, over and over.
+#![tactic(auto)]
+
 mod exports;
 mod held;
 mod reading;

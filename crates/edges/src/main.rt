@@ -1,4 +1,6 @@
 // Tries the checks at their edges, on plans too large or too broken to be written as text, and prints what each gets.
+#![tactic(auto)]
+
 use checks::{Fact, check, check_windows};
 use operators::{CardinalityEffect, CatalogueSet, Declaration, DeclaredSet, Shape};
 use plan::{Cell, Fault};

@@ -1,4 +1,6 @@
 // Cells drawn as DataFusion's EXPLAIN draws operators.
+#![tactic(auto)]
+
 mod lines;
 
 pub use lines::describe;

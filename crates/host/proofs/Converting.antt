@@ -1,5 +1,5 @@
 -- What a converted plan's steps come to: the definitions on lists, followed through unpacking, the call and packing.
-use Rattle.std.proofs.Common.{◌≡◌, ℕ, ◌+◌, ◌-◌, ◌*◌, ◌/◌, ◌%◌, ◌≤◌, Bool, true, false, cond, not, eqb, ltb, List, [], ◌∷◌, ◌++◌, map, length, take, replicate, Ok, Err, Result, sym, refl, ap, ◌∙◌, subst, arith, ltb-false, le-ltb}
+use Rattle.std.proofs.Common.{◌≡◌, ℕ, ◌-◌, ◌*◌, ◌/◌, ◌%◌, ◌≤◌, Bool, true, false, cond, not, eqb, ltb, List, [], ◌∷◌, ◌++◌, map, length, take, replicate, Ok, Err, Result, sym, refl, ap, ◌∙◌, subst, arith, ltb-false, le-ltb}
 use Rattle.std.proofs.lemmas.List.{take_at}
 use Rattle.plan.specs.declared.cells.Cell.{Cell}
 use Rattle.plan.specs.declared.refusals.Fault.{Fault}
@@ -16,7 +16,7 @@ use Rattle.operators.specs.Rules.{Rules}
 use Rattle.checks.specs.Accepts.{count_answer, room_answer, Accepted}
 use Rattle.limits.specs.declared.rules.Rule.{Rule}
 use Rattle.limits.specs.Calls.{Lent, lent_of, call_answer}
-use Rattle.limits.specs.Laws.{count_after, PageKept, PagesKept, Called}
+use Rattle.limits.specs.Laws.{PagesKept}
 use Rattle.host.specs.Host.{table_cells, scratch, size_answer, table_of, cells_answer, host_plan, host_answer, Unpacks, BytesKept, Linked, last_of}
 
 -- what a count tells of the list that was counted

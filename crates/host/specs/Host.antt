@@ -5,8 +5,7 @@ use Rattle.plan.specs.declared.refusals.Fault.{Fault}
 use Rattle.plan.specs.declared.refusals.Refusal.TheVariants.{Count}
 use Rattle.plan.specs.Cells.{blank}
 use Rattle.plan.specs.Refusals.{number_of, refused_at, then}
-use Rattle.plan.specs.Tables.{counted, laid}
-use Rattle.records.specs.Record.{record_size}
+use Rattle.plan.specs.Tables.{laid}
 use Rattle.records.specs.Plans.{packing, unpacking}
 use Rattle.operators.specs.Catalogue.{catalogue}
 use Rattle.checks.specs.Accepts.{count_answer, room_answer}

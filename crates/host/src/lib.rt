@@ -1,4 +1,6 @@
 // The C interface: each rule as a call on packed plans, under the catalogue's operators.
+#![tactic(auto)]
+
 mod chains;
 mod convert;
 mod exports;

@@ -1,6 +1,6 @@
 -- A granted call leaves what its rule makes of an accepted plan, a refused one the plan that it got: so the rules' laws hold of calls,
 -- and of runs of them. Assumes nothing.
-use Rattle.std.proofs.Common.{◌≡◌, ℕ, ◌-◌, true, List, [], ◌∷◌, ◌++◌, length, take, replicate, is_ok, Ok, Err, Result, sym, refl, ap, ◌∙◌, subst, arith}
+use Rattle.std.proofs.Common.{◌≡◌, ℕ, ◌-◌, List, [], ◌∷◌, length, take, replicate, is_ok, Ok, Err, Result, sym, refl, ap, ◌∙◌, subst, arith}
 use Rattle.std.proofs.lemmas.List.{take_at}
 use Rattle.plan.specs.declared.cells.Cell.{Cell}
 use Rattle.plan.specs.declared.refusals.Fault.{Fault}
@@ -8,13 +8,12 @@ use Rattle.plan.specs.Cells.{blank}
 use Rattle.plan.specs.Refusals.{then}
 use Rattle.plan.specs.Tables.{counted, laid}
 use Rattle.operators.specs.Answers.{Answers}
-use Rattle.operators.specs.Rows.{Meaning, rows}
+use Rattle.operators.specs.Rows.{Meaning}
 use Rattle.operators.specs.Rules.{Rules}
 use Rattle.checks.specs.Accepts.{count_answer, plan_answer, Accepted}
 use Rattle.checks.specs.Windows.{windows_answer}
 use Rattle.rows.specs.Grow.{grown_plan, grow_sums}
 use Rattle.rows.specs.Hint.{hinted_plan, hint_sums}
-use Rattle.rows.specs.Laws.{StillAccepted}
 use Rattle.rows.proofs.Passed.{passed, windows_pass}
 use Rattle.rows.proofs.GrowKeeps.{grow_keeps}
 use Rattle.rows.proofs.HintKeeps.{hint_keeps}

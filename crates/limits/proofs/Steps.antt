@@ -1,11 +1,10 @@
 -- One turn of sink's walk. Assumes nothing.
-use Rattle.std.proofs.Common.{◌≡◌, ℕ, zero, suc, ◌+◌, ◌-◌, ◌*◌, ◌<◌, ◌≤◌, min, Bool, true, false, cond, not, ◌&&◌, ◌||◌, eqb, ltb, leb, List, [], ◌∷◌, ◌++◌, length, get_or, take, drop, replicate, Some, None, Ok, Err, Option, Result, sym, refl, ap, ◌∙◌, subst, arith, ltb-false}
+use Rattle.std.proofs.Common.{◌≡◌, ℕ, zero, suc, ◌+◌, ◌-◌, ◌<◌, ◌≤◌, Bool, true, false, cond, not, ◌&&◌, ltb, leb, List, [], ◌∷◌, ◌++◌, length, get_or, drop, replicate, Some, None, Option, refl, ap, subst, arith, ltb-false}
 use Rattle.std.specs.Option.{option_to_list}
 use Rattle.std.specs.List.{AllByRecursion as All}
-use Rattle.std.proofs.lemmas.List.{append_assoc, length-append, length-replicate, length-drop}
+use Rattle.std.proofs.lemmas.List.{length-append, length-replicate, length-drop}
 use Rattle.std.proofs.lemmas.Bool.{and_parts, leb-true}
 use Rattle.plan.specs.declared.cells.Cell.{Cell}
-use Rattle.plan.specs.declared.refusals.Fault.{Fault}
 use Rattle.plan.specs.declared.refusals.Refusal.TheVariants.{Sum}
 use Rattle.plan.specs.Cells.{blank}
 use Rattle.plan.specs.Kinds.{is_limit}
@@ -17,18 +16,16 @@ use Rattle.operators.specs.Answers.{Answers}
 use Rattle.operators.specs.Questions.{passes_limits, takes_fetch}
 use Rattle.checks.specs.declared.facts.Fact.{Fact}
 use Rattle.checks.specs.Cells.{small, small_cell, placed_cell, taken_cell, fields_cell}
-use Rattle.checks.specs.Facts.{head_fact, fact_of, facts, every_fact}
-use Rattle.checks.proofs.Subtrees.{head_every}
+use Rattle.checks.specs.Facts.{head_fact, fact_of, facts}
 use Rattle.checks.proofs.Walks.{cells_more}
 use Rattle.rows.specs.Sums.{too_large}
 use Rattle.rows.proofs.Passed.{Trees}
 use Rattle.sinks.specs.declared.requirements.GlobalRequirements.{GlobalRequirements}
-use Rattle.sinks.specs.declared.requirements.Visited.{Visited}
-use Rattle.sinks.specs.Sink.{combined_fetch, past_limit, past_fetch, onward, satisfied_to, skipped_by, fetching_by, combines_partitions, visited_by, visited, settled, step_by, step, sunk, total_of, sink_sum_by, sink_sum, sink_sums_from}
+use Rattle.sinks.specs.Sink.{combined_fetch, past_fetch, onward, skipped_by, fetching_by, combines_partitions, visited_by, step_by, step, sunk, total_of, sink_sum_by, sink_sum, sink_sums_from}
 use Rattle.sinks.proofs.Visiting.{visited_again}
 use Rattle.limits.specs.declared.limit_pushdown.Stepped.{Stepped}
 use Rattle.limits.specs.declared.pending.Pending.{Pending}
-use Rattle.limits.specs.Pending.{spread, fetch_in_range, InRange, Live, node_stepped, stepped_by, stepped}
+use Rattle.limits.specs.Pending.{spread, fetch_in_range, InRange, Live, stepped_by, stepped}
 
 -- the cells that stand in a cell's place
 abbrev pub cells_of : Stepped → List Cell

@@ -1,5 +1,5 @@
 -- A work table that is written cell by cell. Assumes nothing.
-use Rattle.std.proofs.Common.{◌≡◌, ℕ, ◌+◌, ◌<◌, ◌≤◌, List, [], ◌∷◌, ◌++◌, length, take, set, ap, ◌∙◌}
+use Rattle.std.proofs.Common.{◌≡◌, ℕ, ◌+◌, ◌<◌, List, [], ◌∷◌, ◌++◌, length, take, set, ap, ◌∙◌}
 use Rattle.std.proofs.lemmas.List.{append_assoc, take_more_set}
 use Rattle.plan.specs.declared.cells.Cell.{Cell}
 

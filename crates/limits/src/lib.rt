@@ -1,4 +1,6 @@
 // The rules that move limits through plans.
+#![tactic(auto)]
+
 mod calls;
 mod limit_pushdown;
 mod limit_pushdown_past_window;

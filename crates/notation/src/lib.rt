@@ -1,4 +1,6 @@
 // Plans read from text.
+#![tactic(auto)]
+
 mod cursor;
 mod nodes;
 mod plans;

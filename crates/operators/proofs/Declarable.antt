@@ -1,11 +1,10 @@
 -- A set that holds declarations shows the rules, if none of them is refused. Assumes nothing.
-use Rattle.std.proofs.Common.{◌≡◌, ℕ, ◌+◌, ◌<◌, ◌≤◌, Bool, true, false, cond, not, ◌&&◌, ◌||◌, eqb, ltb, leb, List, [], ◌∷◌, ◌++◌, length, is_ok, Some, None, Option, sym, refl, ap, ◌∙◌, subst, arith}
+use Rattle.std.proofs.Common.{◌≡◌, ℕ, ◌+◌, ◌≤◌, Bool, true, false, cond, eqb, ltb, leb, List, [], ◌∷◌, ◌++◌, length, is_ok, Some, None, Option, sym, refl, ap, ◌∙◌, subst, arith}
 use Rattle.std.proofs.lemmas.Bool.{false≢true, eqb-true, leb-true, le-ltb}
 use Rattle.std.proofs.lemmas.Bool.Decides.{nat_tests}
 use Rattle.plan.specs.Kinds.{first_operator}
 use Rattle.plan.specs.declared.refusals.Refusal.TheVariants.{Declaration as RefusedDeclaration}
 use Rattle.plan.specs.Refusals.{refused_at}
-use Rattle.operators.specs.declared.answers.LimitsPass.{LimitsPass}
 use Rattle.operators.specs.declared.answers.LimitsPass.TheVariants.{No}
 use Rattle.operators.specs.declared.answers.LimitsPass.TheVariants.{RowForRow as Passes}
 use Rattle.operators.specs.declared.answers.PartitionCount.TheVariants.{Sum}
@@ -16,7 +15,7 @@ use Rattle.operators.specs.Questions.{fits_of, passes, passes_limits, empty_of}
 use Rattle.operators.specs.Rules.{Passing}
 use Rattle.operators.specs.Stored.{Shows}
 use Rattle.operators.specs.Declarations.{max_declarations, look_up, is_row_for_row, is_refused, declared_from, declared_answer, declared_answers, declared_source, is_source, answered, fits_shape, passes_shape, partitions_shape}
-use Rattle.operators.proofs.Showing.{Sound, shows}
+use Rattle.operators.proofs.Showing.{shows}
 
 -- a declaration that is not refused is of a kind from 16 on, and takes no fetch where it is row for row
 record Good (k : ℕ) (d : Declaration) : Type 0 where

@@ -1,16 +1,15 @@
 -- A set shows the rules for all stored data, and there are stored data for every choice of rows at its sources. Assumes nothing.
-use Rattle.std.proofs.Common.{◌≡◌, ℕ, suc, ◌+◌, ◌≤◌, Bool, true, false, cond, not, ◌&&◌, ◌||◌, eqb, ltb, leb, ◌⊎◌, List, [], ◌∷◌, ◌++◌, map, length, take, replicate, Some, None, Option, sym, refl, ap, ◌∙◌, subst, inl, inr, ⊎_elim, append-nil, add-zero, arith}
+use Rattle.std.proofs.Common.{◌≡◌, ℕ, suc, ◌≤◌, Bool, true, false, cond, ◌&&◌, eqb, leb, ◌⊎◌, List, [], ◌∷◌, map, length, replicate, Some, None, Option, sym, refl, ap, ◌∙◌, subst, inl, inr, ⊎_elim, append-nil, add-zero, arith}
 use Rattle.std.proofs.lemmas.List.{length-map, length-replicate}
 use Rattle.std.proofs.lemmas.Bool.{false≢true, and_parts, eqb-true, ne_eqb, leb-true, le-ltb}
 use Rattle.std.proofs.lemmas.Bool.Decides.{nat_tests}
-use Rattle.plan.specs.Kinds.{placeholder_row, projection, coalesce_partitions, sort_preserving_merge, bounded_window_agg, aggregate, first_operator, is_limit}
+use Rattle.plan.specs.Kinds.{placeholder_row, projection, aggregate, first_operator}
 use Rattle.operators.specs.declared.answers.LimitsPass.{LimitsPass}
 use Rattle.operators.specs.declared.answers.LimitsPass.TheVariants.{No, RowForRow}
-use Rattle.operators.specs.declared.answers.PartitionCount.TheVariants.{Sum}
 use Rattle.operators.specs.Answers.{Answers}
 use Rattle.operators.specs.Questions.{fits_of, passes, passes_limits, one_partition, partitions_of, count_by, empty_of}
 use Rattle.operators.specs.Rows.{Row, Partitions, Making, Meaning, concat}
-use Rattle.operators.specs.Rules.{Agree, AtMost, sum, all_true, each, KnownTrue, keys, Begins, row_for_row, by_meaning, Counted, EmptyIfKnown, IsRowForRow, RulesAt, Passing, Rules}
+use Rattle.operators.specs.Rules.{Agree, AtMost, sum, all_true, KnownTrue, keys, Begins, row_for_row, RulesAt, Passing, Rules}
 use Rattle.operators.specs.Stored.{InPartitions, Stored, meaning_of, Shows}
 use Rattle.operators.proofs.Lists.{length-concat, concat_empty, none_empty, each_self, each_nothing, begins_whole}
 

@@ -7,7 +7,6 @@ use Rattle.plan.specs.Refusals.{refused_at}
 use Rattle.operators.specs.declared.answers.LimitsPass.{LimitsPass}
 use Rattle.operators.specs.declared.answers.LimitsPass.TheVariants.{No}
 use Rattle.operators.specs.declared.answers.LimitsPass.TheVariants.{RowForRow as Passes}
-use Rattle.operators.specs.declared.answers.CardinalityEffect.{CardinalityEffect}
 use Rattle.operators.specs.declared.answers.CardinalityEffect.TheVariants.{Unknown}
 use Rattle.operators.specs.declared.answers.PartitionCount.{PartitionCount}
 use Rattle.operators.specs.declared.answers.PartitionCount.TheVariants.{Sum, Fixed}

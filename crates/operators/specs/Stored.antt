@@ -1,8 +1,8 @@
 -- What a set's sources hold and its other operators make, and that for all of it the set shows the rules. Assumes nothing.
-use Rattle.std.specs.Prelude.{◌≡◌, ℕ, Bool, true, false, cond, List, [], length, Option}
+use Rattle.std.specs.Prelude.{◌≡◌, ℕ, Bool, true, false, cond, [], length, Option}
 use Rattle.operators.specs.Answers.{Answers}
 use Rattle.operators.specs.Questions.{fits_of, partitions_of}
-use Rattle.operators.specs.Rows.{Row, Partitions, Making, Meaning}
+use Rattle.operators.specs.Rows.{Row, Partitions, Meaning}
 use Rattle.operators.specs.Rules.{RulesAt, Rules}
 
 -- rows for each source, by kind and parameter, in as many partitions as the set answers

@@ -1,5 +1,5 @@
 -- How far a window's expressions look ahead. Assumes nothing.
-use Rattle.std.specs.Prelude.{◌≡◌, ℕ, ◌+◌, ◌≤◌, max, Bool, true, false, cond, ◌&&◌, List, [], ◌∷◌, length, Some, None as Absent, Option}
+use Rattle.std.specs.Prelude.{ℕ, ◌≤◌, max, Bool, true, false, cond, ◌&&◌, List, [], ◌∷◌, length, Some, None as Absent, Option}
 use Rattle.plan.specs.Numbers.{max_number}
 use Rattle.operators.specs.declared.answers.LimitEffect.{LimitEffect}
 use Rattle.operators.specs.declared.answers.LimitEffect.TheVariants.{None, Unknown, Relative, Absolute}

@@ -1,4 +1,6 @@
 // Operator sets: what the rules may ask of a plan's operators, and the sets that answer.
+#![tactic(auto)]
+
 mod answers;
 mod catalogue;
 mod declarations;

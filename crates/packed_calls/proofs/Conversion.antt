@@ -1,5 +1,5 @@
 -- What unpacking, the call and packing come to, one after another, in memory that is large enough. Assumes nothing.
-use Rattle.std.proofs.Common.{◌≡◌, ℕ, ◌+◌, ◌-◌, ◌*◌, ◌/◌, ◌≤◌, Bool, true, false, cond, ◌||◌, eqb, ltb, List, [], ◌∷◌, ◌++◌, length, take, replicate, Ok, Err, Result, sym, refl, ap, ◌∙◌, subst, arith, ltb-false, le-ltb}
+use Rattle.std.proofs.Common.{◌≡◌, ℕ, ◌+◌, ◌-◌, ◌*◌, ◌/◌, ◌≤◌, Bool, true, false, cond, ◌||◌, eqb, ltb, List, ◌++◌, length, take, replicate, Ok, Err, Result, sym, refl, ap, ◌∙◌, subst, arith, ltb-false, le-ltb}
 use Rattle.std.proofs.lemmas.List.{take_at, length-append, length-replicate}
 use Rattle.plan.specs.declared.cells.Cell.{Cell}
 use Rattle.plan.specs.declared.refusals.Fault.{Fault}
@@ -15,8 +15,7 @@ use Rattle.operators.specs.Answers.{Answers}
 use Rattle.checks.specs.Accepts.{count_answer, room_answer, plan_answer}
 use Rattle.limits.specs.declared.rules.Rule.{Rule}
 use Rattle.limits.specs.Calls.{Lent, lent_of, rule_answer, rooms_answer, call_answer}
-use Rattle.packed_calls.specs.Converts.{unpacked, node_room, cells_answer, unpacked_answer, packed_up}
-use Rattle.packed_calls.proofs.Writable.{Packs}
+use Rattle.packed_calls.specs.Converts.{unpacked, node_room, cells_answer, unpacked_answer}
 use Rattle.packed_calls.proofs.Keeping.{unpacked_packs}
 
 -- what a count tells of the list that was counted

@@ -1,25 +1,23 @@
 -- A granted call leaves bytes that hold what its rule makes of the plan, a refused one none: so the laws of the rules hold of bytes, and of
 -- lists of calls. Assumes nothing.
-use Rattle.std.proofs.Common.{◌≡◌, ℕ, ◌-◌, ◌*◌, ◌/◌, ◌≤◌, List, [], ◌∷◌, length, take, replicate, is_ok, IfOk as made, Ok, Err, Result, sym, refl, ap, ◌∙◌, subst, arith}
+use Rattle.std.proofs.Common.{◌≡◌, ℕ, ◌-◌, ◌*◌, List, [], ◌∷◌, length, take, replicate, is_ok, IfOk as made, Ok, Err, Result, sym, refl, ap, ◌∙◌, subst, arith}
 use Rattle.std.proofs.lemmas.List.{take_at}
 use Rattle.plan.specs.declared.cells.Cell.{Cell}
 use Rattle.plan.specs.declared.refusals.Fault.{Fault}
 use Rattle.plan.specs.Refusals.{then}
 use Rattle.plan.specs.Tables.{counted, laid}
 use Rattle.records.specs.Record.{record_size}
-use Rattle.records.specs.Plans.{packed_plan, unpacking}
+use Rattle.records.specs.Plans.{packed_plan}
 use Rattle.records.proofs.Chunks.{length_packed}
 use Rattle.records.proofs.Undone.{plan_forth}
-use Rattle.records.proofs.Rooms.{enough, Read, read_cells}
+use Rattle.records.proofs.Rooms.{enough, read_cells}
 use Rattle.operators.specs.Answers.{Answers}
-use Rattle.operators.specs.Rows.{Meaning}
-use Rattle.operators.specs.Rules.{Rules}
 use Rattle.checks.specs.Accepts.{count_answer, room_answer, plan_answer, Accepted}
 use Rattle.limits.specs.declared.rules.Rule.{Rule}
 use Rattle.limits.specs.Calls.{rule_answer}
 use Rattle.limits.proofs.Keeping.{granted_then, unpacked_ok, same_page, next_page, rule_keeps}
 use Rattle.packed_calls.specs.Converts.{size_answer, unpacked, node_room, cells_answer, unpacked_answer, packed_answer, packed_up, output}
-use Rattle.packed_calls.specs.Laws.{HoldsPages, BytesKept, AskedPacked, bytes_after, ran_packed}
+use Rattle.packed_calls.specs.Laws.{BytesKept, AskedPacked, bytes_after, ran_packed}
 use Rattle.packed_calls.proofs.Writable.{Packs, rule_packs}
 
 -- a packed plan holds its cells

@@ -1,10 +1,9 @@
 -- What a rule leaves of an accepted plan has a record for each cell, and at most twice as many. Assumes nothing.
-use Rattle.std.proofs.Common.{◌≡◌, ℕ, ◌*◌, ◌<◌, ◌≤◌, Bool, true, false, not, ◌&&◌, ◌||◌, eqb, leb, List, [], ◌∷◌, length, is_some, Some, None, Ok, Option, Result, unwrap_or, sym, refl, ap, ◌∙◌, subst, arith}
+use Rattle.std.proofs.Common.{◌≡◌, ℕ, ◌*◌, ◌<◌, ◌≤◌, true, not, ◌&&◌, ◌||◌, eqb, leb, List, [], ◌∷◌, length, is_some, Some, None, Ok, Option, unwrap_or, subst, arith}
 use Rattle.std.specs.List.{AllByRecursion as All}
 use Rattle.std.proofs.lemmas.Bool.{and_parts}
 use Rattle.std.proofs.lemmas.Bool.Decides.{nat_tests}
 use Rattle.plan.specs.declared.cells.Cell.{Cell}
-use Rattle.plan.specs.declared.refusals.Fault.{Fault}
 use Rattle.plan.specs.declared.refusals.Refusal.TheVariants.{Fit, Fields}
 use Rattle.plan.specs.Kinds.{global_limit, local_limit, aggregate}
 use Rattle.plan.specs.Numbers.{max_number, max_children, max_parameter}
@@ -18,7 +17,7 @@ use Rattle.checks.specs.Cells.{fit_cell, small, small_cell, placed_cell, taken_c
 use Rattle.checks.specs.Windows.{windows_answer}
 use Rattle.rows.specs.Grow.{grow_first, grown_plan, grow_sums}
 use Rattle.rows.specs.Hint.{hinted_plan, hint_sums}
-use Rattle.rows.proofs.Passed.{Passed, passed}
+use Rattle.rows.proofs.Passed.{passed}
 use Rattle.rows.proofs.Passed.{Fit as AllFit}
 use Rattle.rows.proofs.Passed.{Fields as AllFields}
 use Rattle.rows.proofs.Alike.{kinds_alike}

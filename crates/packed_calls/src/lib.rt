@@ -1,4 +1,6 @@
 // Calls of rules on packed plans, under any operator set: unpack, call, pack.
+#![tactic(auto)]
+
 mod codes;
 mod converting;
 

@@ -2,6 +2,8 @@
 // each plan as a tree, says whether it is accepted or which refusal it gets and where, calls the rules on it and draws what they leave,
 // and prints the packed bytes of the plan that came in. Blank lines and lines that begin with `#` are passed over. A line that cannot be
 // read is named with its column, one with a word that names no rule with that word, and the lines behind it are still served.
+#![tactic(auto)]
+
 mod answers;
 mod entries;
 mod runs;

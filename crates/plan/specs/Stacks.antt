@@ -1,5 +1,5 @@
 -- What a stack in lent memory holds. Assumes nothing.
-use Rattle.std.specs.Prelude.{ℕ, ◌-◌, min, List, [], ◌∷◌, length, drop, Some, None, Option}
+use Rattle.std.specs.Prelude.{ℕ, min, List, [], ◌∷◌, length, drop, Some, None, Option}
 use Rattle.plan.specs.declared.stacks.Stack.{Stack}
 
 -- the first entry, if there is one

@@ -1,4 +1,6 @@
 // The vocabulary of plans: cells and their kinds, refusals and their places, stacks in lent memory.
+#![tactic(auto)]
+
 mod cells;
 mod kinds;
 mod refusals;

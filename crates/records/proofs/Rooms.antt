@@ -6,7 +6,7 @@ use Rattle.plan.specs.declared.cells.Cell.{Cell}
 use Rattle.plan.specs.declared.refusals.Fault.{Fault}
 use Rattle.plan.specs.declared.refusals.Refusal.TheVariants.{Packed, Room}
 use Rattle.plan.specs.Refusals.{refused_at, then}
-use Rattle.records.specs.Record.{record_size, cell_of, sound, values_in}
+use Rattle.records.specs.Record.{record_size, cell_of, sound}
 use Rattle.records.specs.Plans.{records, plan_values, all_pass, unpacking}
 use Rattle.records.proofs.Chunks.{length_values}
 use Rattle.records.proofs.Undone.{kinds_read}

@@ -1,4 +1,6 @@
 // Packed plans: for each cell a record of 14 bytes, one after another.
+#![tactic(auto)]
+
 mod layout;
 mod octets;
 mod plans;

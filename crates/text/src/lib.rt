@@ -1,4 +1,6 @@
 // What the notation of plans and of packed bytes rests on: problems and their columns, the letters of kinds, hexadecimal pairs.
+#![tactic(auto)]
+
 mod hex;
 mod letters;
 mod problems;

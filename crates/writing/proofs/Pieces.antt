@@ -1,6 +1,6 @@
 -- Text that is written piece by piece. Assumes nothing.
-use Rattle.std.proofs.Common.{◌≡◌, ℕ, ◌+◌, List, [], ◌∷◌, ◌++◌, replicate, sym, refl, ap, ◌∙◌}
-use Rattle.std.proofs.lemmas.List.{append_assoc, append-nil, replicate_more}
+use Rattle.std.proofs.Common.{◌≡◌, ℕ, ◌+◌, List, [], ◌∷◌, ◌++◌, replicate, ap, ◌∙◌}
+use Rattle.std.proofs.lemmas.List.{append_assoc, replicate_more}
 
 -- one closing parenthesis more
 pub one_closing : (before x out : List ℕ) (i : ℕ) → out ≡ x ++ (41 ∷ []) → x ≡ before ++ replicate i 41 → out ≡ before ++ replicate (i + 1) 41

@@ -1,5 +1,5 @@
 -- A stack whose top stands last. Assumes nothing.
-use Rattle.std.proofs.Common.{◌≡◌, ℕ, ◌+◌, ◌-◌, ◌<◌, ◌≤◌, List, [], ◌∷◌, ◌++◌, reverse, length, get_or, take, set, sym, refl, ap, ◌∙◌, arith, le-ltb, lt-ltb}
+use Rattle.std.proofs.Common.{◌≡◌, ℕ, ◌+◌, ◌-◌, ◌<◌, ◌≤◌, List, [], ◌∷◌, ◌++◌, reverse, length, get_or, take, set, sym, ap, ◌∙◌, arith, le-ltb, lt-ltb}
 use Rattle.writing.specs.Awaits.{after_tree, completes}
 use Rattle.std.proofs.lemmas.List.{take_all, take_more, reverse-append, take-set, get_or-set_same, length-set}
 

@@ -1,5 +1,5 @@
 -- The notation of cells. Assumes nothing.
-use Rattle.std.specs.Prelude.{ℕ, Bool, true, false, cond, not, List, [], ◌∷◌, ◌++◌, length, replicate, Some, None, codes, decimal, Option, ◌==◌, nat_lt}
+use Rattle.std.specs.Prelude.{ℕ, Bool, true, cond, not, List, [], ◌∷◌, ◌++◌, length, replicate, codes, decimal, Option, ◌==◌, nat_lt}
 use Rattle.plan.specs.Kinds.{global_limit, local_limit}
 use Rattle.plan.specs.declared.cells.Cell.{Cell}
 use Rattle.text.specs.Hex.{on}

@@ -1,4 +1,6 @@
 // Plans written as text, and how deep their cells stand.
+#![tactic(auto)]
+
 mod awaited;
 mod levels;
 mod writes;

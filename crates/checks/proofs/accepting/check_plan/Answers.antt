@@ -1,5 +1,4 @@
 use Rattle.std.proofs.Common.{◌≡◌, ap, ◌∙◌, rules}
-use Rattle.checks.specs.declared.facts.Fact.{Fact}
 use Rattle.checks.specs.Facts.{head_fact, facts}
 use Rattle.checks.proofs.Subtrees.{head_every}
 use Rattle.checks.proofs.accepting.check_plan.Goals as goal

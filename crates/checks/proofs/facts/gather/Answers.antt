@@ -1,4 +1,4 @@
-use Rattle.std.proofs.Common.{◌≡◌, sym, ◌∙◌, arith}
+use Rattle.std.proofs.Common.{sym, ◌∙◌, arith}
 use Rattle.plan.specs.Stacks.{content}
 use Rattle.checks.proofs.Gathering.{bounded_next, gather_turn, gather_all}
 use Rattle.checks.proofs.facts.gather.Goals as goal

@@ -1,4 +1,4 @@
-use Rattle.std.proofs.Common.{◌≡◌, ◌+◌, ◌*◌, ◌≤◌, drop}
+use Rattle.std.proofs.Common.{◌≡◌, ◌*◌, ◌≤◌, drop}
 use Rattle.checks.specs.Windows.{windows_from, windows_answer}
 use Rattle.checks.proofs.windows.check_windows.Given as goal
 

@@ -1,4 +1,4 @@
-use Rattle.std.proofs.Common.{◌≡◌, ℕ, ◌-◌, true, List, map, take, sym, ap, ◌∙◌, subst, arith, rules}
+use Rattle.std.proofs.Common.{◌≡◌, ℕ, ◌-◌, true, List, take, sym, ap, ◌∙◌, subst, arith}
 use Rattle.operators.specs.declared.answers.WindowExpr.{WindowExpr}
 use Rattle.driver.specs.Reading.{exprs_of}
 use Rattle.driver.specs.Tables.{sized}

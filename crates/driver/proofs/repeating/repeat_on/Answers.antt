@@ -1,4 +1,4 @@
-use Rattle.std.proofs.Common.{◌≡◌, ℕ, ◌-◌, ◌*◌, List, length, take, replicate, sym, refl, ap, ◌∙◌, arith, rules}
+use Rattle.std.proofs.Common.{◌≡◌, ℕ, ◌-◌, ◌*◌, take, replicate, sym, ap, ◌∙◌, arith, rules}
 use Rattle.plan.specs.Cells.{blank}
 use Rattle.driver.proofs.Repeats.{repeated_plan}
 use Rattle.driver.proofs.repeating.repeat_on.Goals as goal

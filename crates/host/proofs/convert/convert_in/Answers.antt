@@ -1,4 +1,4 @@
-use Rattle.std.proofs.Common.{◌≡◌, ℕ, ◌-◌, ◌*◌, ◌≤◌, List, length, take, IfOk, Ok, Err, Result, sym, refl, ap, ◌∙◌, subst, arith, rules}
+use Rattle.std.proofs.Common.{◌≡◌, ℕ, ◌-◌, ◌≤◌, List, length, take, IfOk, Ok, Err, Result, sym, ap, ◌∙◌, subst, arith, rules}
 use Rattle.plan.specs.declared.cells.Cell.{Cell}
 use Rattle.plan.specs.declared.refusals.Fault.{Fault}
 use Rattle.plan.specs.Refusals.{then}
@@ -7,7 +7,7 @@ use Rattle.records.specs.Plans.{packing, unpacking}
 use Rattle.operators.specs.Catalogue.{catalogue}
 use Rattle.limits.specs.Calls.{lent_of}
 use Rattle.limits.specs.Laws.{count_after, PagesKept}
-use Rattle.host.specs.Host.{table_cells, host_plan, host_answer}
+use Rattle.host.specs.Host.{table_cells, host_plan}
 use Rattle.host.proofs.Converting.{Reached, reached, Granted, call_refused, call_granted, pack_refused, pack_granted, bytes_kept}
 use Rattle.host.proofs.convert.convert_in.Goals as goal
 

@@ -1,18 +1,14 @@
-use Rattle.std.proofs.Common.{◌≡◌, ℕ, ◌+◌, ◌-◌, ◌*◌, ◌<◌, ◌≤◌, List, [], ◌∷◌, ◌++◌, length, get_or, take, drop, replicate, Err, sym, refl, ap, ◌∙◌, subst, arith}
+use Rattle.std.proofs.Common.{◌≡◌, List, [], ◌∷◌, length, take, drop, Err, sym, refl, ap, ◌∙◌, subst, arith}
 use Rattle.std.proofs.lemmas.List.{length-drop, append-nil}
-use Rattle.plan.specs.declared.cells.Cell.{Cell}
-use Rattle.plan.specs.Cells.{blank}
-use Rattle.plan.specs.Stacks.{content, room}
-use Rattle.checks.specs.declared.facts.Fact.{Fact}
-use Rattle.checks.specs.Facts.{every_fact}
+use Rattle.plan.specs.Stacks.{content}
 use Rattle.checks.proofs.Subtrees.{length_every}
-use Rattle.checks.proofs.Walks.{cells_more, cells_all}
+use Rattle.checks.proofs.Walks.{cells_all}
 use Rattle.rows.proofs.Passed.{Trees, passed}
 use Rattle.sinks.specs.declared.requirements.GlobalRequirements.{GlobalRequirements}
 use Rattle.sinks.specs.Sink.{at_first, sunk, sink_sums_from, sink_sums}
 use Rattle.limits.specs.declared.pending.Pending.{Pending}
 use Rattle.limits.specs.Pending.{spread, Live}
-use Rattle.limits.proofs.Steps.{sunk_more, sums_more, range_stepped, fields_at, trees_within, spread_within, spread_some, room_left, trees_next}
+use Rattle.limits.proofs.Steps.{fields_at, trees_within, spread_within, spread_some, room_left, trees_next}
 use Rattle.limits.proofs.Turns.{rest_known, turn_refused, turn_range, turn_sums, turn_cells, turn_trees, at_most_one}
 use Rattle.limits.proofs.limit_pushdown.sink_cells.Goals as goal
 

@@ -1,4 +1,4 @@
-use Rattle.std.proofs.Common.{◌≡◌, List, ◌∷◌, sym, ap, ◌∙◌, arith, rules}
+use Rattle.std.proofs.Common.{List, ◌∷◌, sym, ap, ◌∙◌, arith}
 use Rattle.plan.specs.Stacks.{content}
 use Rattle.sinks.specs.declared.requirements.GlobalRequirements.{GlobalRequirements}
 use Rattle.limits.proofs.Spreads.{popped, popped_one, spread_less}

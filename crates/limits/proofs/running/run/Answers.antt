@@ -1,14 +1,12 @@
-use Rattle.std.proofs.Common.{◌≡◌, ℕ, ◌<◌, ◌≤◌, List, length, get_or, take, replicate, sym, refl, ap, ◌∙◌, subst, arith, rules}
+use Rattle.std.proofs.Common.{◌≡◌, ◌<◌, ◌≤◌, List, length, get_or, take, replicate, sym, ap, ◌∙◌, subst, arith}
 use Rattle.std.proofs.lemmas.List.{length-replicate}
 use Rattle.plan.specs.declared.cells.Cell.{Cell}
 use Rattle.plan.specs.Cells.{blank}
 use Rattle.plan.specs.Tables.{counted, laid}
-use Rattle.operators.specs.Rows.{Meaning}
-use Rattle.operators.specs.Rules.{Rules}
 use Rattle.checks.specs.Facts.{blank_fact}
 use Rattle.limits.specs.Pending.{blank_pending}
 use Rattle.limits.specs.Calls.{Lent, lent_of, call_answer}
-use Rattle.limits.specs.Laws.{PageKept, Ran, ran, asked, answered_calls}
+use Rattle.limits.specs.Laws.{PageKept, ran, asked, answered_calls}
 use Rattle.limits.proofs.Keeping.{run_keeps}
 use Rattle.limits.proofs.Runs.{no_call, begun, run_more, run_all}
 use Rattle.limits.proofs.running.run.Goals as goal

@@ -1,4 +1,4 @@
-use Rattle.std.proofs.Common.{◌≡◌, ◌-◌, ◌≤◌, reverse, length, vec_items, vec_len}
+use Rattle.std.proofs.Common.{◌≡◌, ◌≤◌, reverse, vec_items, vec_len}
 use Rattle.std.specs.List.{AllByRecursion as All}
 use Rattle.notation.specs.Cursors.{Onward, rest}
 use Rattle.notation.specs.Plans.{close_at}

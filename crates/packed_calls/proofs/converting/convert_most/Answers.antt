@@ -1,4 +1,4 @@
-use Rattle.std.proofs.Common.{◌≡◌, length, sym, ap, ◌∙◌, subst, arith, rules}
+use Rattle.std.proofs.Common.{◌≡◌, length, sym, ap, ◌∙◌, subst, rules}
 use Rattle.plan.specs.Tables.{counted}
 use Rattle.packed_calls.specs.Codes.{code_of, HasCode}
 use Rattle.packed_calls.specs.Converts.{packed_answer}

@@ -1,4 +1,4 @@
-use Rattle.std.proofs.Common.{◌≡◌, List, set, ap, ◌∙◌, arith}
+use Rattle.std.proofs.Common.{set, ap, ◌∙◌, arith}
 use Rattle.plan.proofs.Wiping.{wiped_more, wiped_all}
 use Rattle.plan.proofs.stacks.wipe.Goals as goal
 

@@ -1,4 +1,4 @@
-use Rattle.std.proofs.Common.{◌≡◌, ℕ, List, ◌++◌, replicate, is_ok, string_bytes, codes, sym, ap, ◌∙◌, rules}
+use Rattle.std.proofs.Common.{◌≡◌, ℕ, List, ◌++◌, replicate, is_ok, string_bytes, codes, ap, ◌∙◌, rules}
 use Rattle.std.proofs.ResultArms.{chosen}
 use Rattle.writing.proofs.Pieces.{two_pieces}
 use Rattle.writing.specs.Written.{link_text}

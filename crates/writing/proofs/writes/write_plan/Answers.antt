@@ -1,10 +1,9 @@
-use Rattle.std.proofs.Common.{◌≡◌, ℕ, ◌+◌, true, cond, List, [], ◌++◌, get_or, drop, is_ok, string_bytes, codes, sym, ap, ◌∙◌, rules}
+use Rattle.std.proofs.Common.{◌≡◌, ℕ, ◌+◌, cond, List, [], ◌++◌, get_or, drop, is_ok, string_bytes, codes, sym, ap, ◌∙◌, rules}
 use Rattle.std.proofs.ResultArms.{chosen}
 use Rattle.std.proofs.lemmas.List.{at_drop_more, at_drop_all}
 use Rattle.plan.specs.Cells.{blank}
-use Rattle.plan.specs.declared.cells.Cell.{Cell}
 use Rattle.writing.specs.Awaits.{awaiting}
-use Rattle.writing.specs.Written.{node_text, link_text, linked, still_due, written}
+use Rattle.writing.specs.Written.{node_text, written}
 use Rattle.writing.proofs.Pieces.{three_pieces}
 use Rattle.writing.proofs.writes.write_plan.Goals as goal
 

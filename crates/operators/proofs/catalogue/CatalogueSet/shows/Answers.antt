@@ -1,10 +1,7 @@
-use Rattle.std.proofs.Common.{◌≡◌, ℕ, ◌≤◌, Bool, true, false, cond, ◌&&◌, eqb, leb, sym, refl, ap, ◌∙◌, subst, arith}
+use Rattle.std.proofs.Common.{◌≡◌, ℕ, Bool, true, false, cond, eqb, sym, refl, ap, subst, arith}
 use Rattle.std.proofs.lemmas.Bool.{false≢true, eqb-true}
 use Rattle.std.proofs.lemmas.Bool.Decides.{nat_tests}
-use Rattle.plan.specs.Kinds.{first_operator}
-use Rattle.operators.specs.declared.answers.LimitsPass.{LimitsPass}
 use Rattle.operators.specs.declared.answers.LimitsPass.TheVariants.{No, RowForRow}
-use Rattle.operators.specs.declared.answers.PartitionCount.TheVariants.{Sum}
 use Rattle.operators.specs.Questions.{fits_of, passes, passes_limits, empty_of}
 use Rattle.operators.specs.Rules.{Passing}
 use Rattle.operators.specs.Catalogue.{catalogue, catalogue_source, scan, union}

@@ -1,4 +1,4 @@
-use Rattle.std.proofs.Common.{◌≡◌, ℕ, ◌+◌, ◌-◌, ◌<◌, ◌≤◌, List, [], reverse, length, get_or, vec_items, vec_len, sym, refl, ap, ◌∙◌, arith, rules}
+use Rattle.std.proofs.Common.{◌≡◌, ℕ, ◌+◌, ◌-◌, List, [], reverse, length, get_or, vec_items, sym, refl, ap, ◌∙◌, arith, rules}
 use Rattle.std.proofs.lemmas.List.{get_or_read_under, nil_from_length}
 use Rattle.writing.specs.Awaits.{after_tree, completes}
 use Rattle.writing.proofs.Reversed.{one_fewer, none_left}

@@ -1,4 +1,4 @@
-use Rattle.std.proofs.Common.{vec_items, sym, ◌∙◌, arith}
+use Rattle.std.proofs.Common.{vec_items, sym, ◌∙◌}
 use Rattle.std.proofs.lemmas.List.{length-reverse}
 use Rattle.writing.proofs.awaited.Awaited.depth.Goals as goal
 

@@ -1,7 +1,7 @@
 -- One turn of sink's walk. Assumes nothing.
 use Rattle.std.proofs.Common.{◌≡◌, ℕ, zero, suc, ◌+◌, ◌-◌, ◌<◌, ◌≤◌, Bool, true, false, cond, not, ◌&&◌, ltb, leb, List, [], ◌∷◌, ◌++◌, length, get_or, drop, replicate, Some, None, Option, refl, ap, subst, arith, ltb-false}
 use Rattle.std.specs.Option.{option_to_list}
-use Rattle.std.specs.List.{AllByRecursion as All}
+use Rattle.std.specs.List.{AllByRecursion}
 use Rattle.std.proofs.lemmas.List.{length-append, length-replicate, length-drop}
 use Rattle.std.proofs.lemmas.Bool.{and_parts, leb-true}
 use Rattle.plan.specs.declared.cells.Cell.{Cell}
@@ -95,7 +95,7 @@ small_fetch None e = tt
 small_fetch (Some n) e = leb-true n max_number e
 
 -- the fields of each cell are in range
-pub fields_at : (a : Answers) (cells : List Cell) (i : ℕ) → All (λ c. fields_cell a c ≡ true) cells → i < length cells → ((get_or cells i blank).skip ≤ max_number) × fetch_in_range (get_or cells i blank).fetch
+pub fields_at : (a : Answers) (cells : List Cell) (i : ℕ) → AllByRecursion (λ c. fields_cell a c ≡ true) cells → i < length cells → ((get_or cells i blank).skip ≤ max_number) × fetch_in_range (get_or cells i blank).fetch
 fields_at a [] i h l = absurd (omega arith)
 fields_at a (c ∷ cs) zero h l =
     let fields = (and_parts (small_cell c && placed_cell c) (taken_cell a c) h.0).0 in

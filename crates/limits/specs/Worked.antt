@@ -1,6 +1,6 @@
 -- Worked plans: what the rules leave of them under the catalogue set. Assumes nothing.
 use Rattle.std.specs.Prelude.{◌≡◌, ℕ, false, List, [], ◌∷◌, Some, None, Ok, Option}
-use Rattle.std.specs.List.{AllByRecursion as All}
+use Rattle.std.specs.List.{AllByRecursion}
 use Rattle.plan.specs.declared.cells.Cell.{Cell}
 use Rattle.operators.specs.Catalogue.{catalogue}
 use Rattle.limits.specs.declared.rules.Rule.{Rule}
@@ -59,4 +59,4 @@ worked_plans =
 
 -- each rule leaves of each plan what the table says
 abbrev pub WorkedPlans : Type 0
-WorkedPlans = All (λ w. rule_answer catalogue w.rule w.plan ≡ Ok w.left) worked_plans
+WorkedPlans = AllByRecursion (λ w. rule_answer catalogue w.rule w.plan ≡ Ok w.left) worked_plans

@@ -1,6 +1,6 @@
 -- Cells that form one tree, in prefix order. Assumes nothing.
 use Rattle.std.specs.Prelude.{◌≡◌, ℕ, ◌+◌, ◌-◌, ◌≤◌, Bool, true, false, cond, List, [], ◌∷◌, length, ◌==◌, nat_lt, slice_index_or, slice_set}
-use Rattle.std.specs.List.{AllByRecursion as All}
+use Rattle.std.specs.List.{AllByRecursion}
 use Rattle.plan.specs.Cells.{blank}
 use Rattle.plan.specs.Numbers.{max_nodes}
 use Rattle.plan.specs.declared.cells.Cell.{Cell}
@@ -22,7 +22,7 @@ child_counted cells place = slice_set cells place (one_more (slice_index_or cell
 -- what is promised of the cells that a text of so many bytes gives
 pub record ReadPlan (bytes : ℕ) (cells : List Cell) : Type 0 where
   -- each fits a packed record
-  pub packs : All Packs cells
+  pub packs : AllByRecursion Packs cells
   -- they are one tree
   pub tree : tree_from 1 cells ≡ true
   -- there is at least one, at most as many as a plan may have, and at most one for each byte

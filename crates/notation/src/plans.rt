@@ -1,6 +1,6 @@
 // A plan read from its text: nodes in prefix order, children behind their parent.
 ghost use Rattle.std.specs.Prelude.{◌≡◌, ◌+◌, ◌-◌, ◌<◌, ◌≤◌, true, reverse, length, IfSome, IfOk, IfErr, Some, Ok, vec_len, OnOk, slice_index, slice_index_or};
-ghost use Rattle.std.specs.List.{AllByRecursion as All};
+ghost use Rattle.std.specs.List.{AllByRecursion};
 ghost use Rattle.plan.specs.Cells.{blank};
 ghost use Rattle.plan.specs.Numbers.{max_nodes, max_children};
 ghost use Rattle.notation.specs.Cursors.{Onward, rest, past_blanks, begins, tail};
@@ -56,9 +56,9 @@ fn close(
     parents: &mut Vec<usize>,
     last: usize,
 ) -> Result<Option<usize>, Problem>
-    requires { All (λ p. p ≤ last) parents.old.items }
+    requires { AllByRecursion (λ p. p ≤ last) parents.old.items }
     ensures onward { Onward cursor.old cursor.new }
-    ensures kept { All (λ p. p ≤ last) parents.new.items }
+    ensures kept { AllByRecursion (λ p. p ≤ last) parents.new.items }
     ensures parent { IfOk result (λ o. IfSome o (λ p. p ≤ last)) }
     ensures value { IfOk result (λ o. close_at (reverse parents.old.items) (rest cursor.old) ≡ Ok ((o, reverse parents.new.items), rest cursor.new)) }
 {
@@ -82,9 +82,9 @@ fn next_parent(
     parents: &mut Vec<usize>,
     last: usize,
 ) -> Result<Option<usize>, Problem>
-    requires { All (λ p. p ≤ last) parents.old.items }
+    requires { AllByRecursion (λ p. p ≤ last) parents.old.items }
     ensures onward { Onward cursor.old cursor.new }
-    ensures kept { OnOk result (All (λ p. p ≤ last) parents.new.items) }
+    ensures kept { OnOk result (AllByRecursion (λ p. p ≤ last) parents.new.items) }
     ensures parent { IfOk result (λ o. IfSome o (λ p. p ≤ last)) }
     ensures value { IfOk result (λ o. next_at (reverse parents.old.items) last (past_blanks (rest cursor.old)) ≡ Ok ((o, reverse parents.new.items), rest cursor.new)) }
 {

@@ -1,6 +1,6 @@
 -- What a rule leaves of an accepted plan has a record for each cell, and at most twice as many. Assumes nothing.
 use Rattle.std.proofs.Common.{◌≡◌, ℕ, ◌*◌, ◌<◌, ◌≤◌, true, not, ◌&&◌, ◌||◌, eqb, leb, List, [], ◌∷◌, length, is_some, Some, None, Ok, Option, unwrap_or, subst, arith}
-use Rattle.std.specs.List.{AllByRecursion as All}
+use Rattle.std.specs.List.{AllByRecursion}
 use Rattle.std.proofs.lemmas.Bool.{and_parts}
 use Rattle.std.proofs.lemmas.Bool.Decides.{nat_tests}
 use Rattle.plan.specs.declared.cells.Cell.{Cell}
@@ -34,12 +34,12 @@ use Rattle.limits.proofs.Keeping.{granted_then, unpacked_ok}
 
 -- what packing asks of cells, and how many they may be
 pub record Packs (before : ℕ) (new : List Cell) : Type 0 where
-  pub kinds : All (λ c. c.kind < 256) new
+  pub kinds : AllByRecursion (λ c. c.kind < 256) new
   pub fit : all_pass Fit fits 0 new ≡ Ok tt
   pub fields : all_pass Fields in_range 0 new ≡ Ok tt
   pub few : length new ≤ 2 * before
 
-each_weaker : (T U : Cell → Type 0) → ((c : Cell) → T c → U c) → (cs : List Cell) → All T cs → All U cs
+each_weaker : (T U : Cell → Type 0) → ((c : Cell) → T c → U c) → (cs : List Cell) → AllByRecursion T cs → AllByRecursion U cs
 each_weaker T U e [] h = tt
 each_weaker T U e (c ∷ cs) h = (e c h.0, each_weaker T U e cs h.1)
 
@@ -62,7 +62,7 @@ module _ (a : Answers) where
       let both = and_parts (small_cell c) (placed_cell c) parts.0 in
       in_range_by c.fetch c.hint c.skip c.kind both.0 both.1
 
-  packs : (before : ℕ) (new : List Cell) → All (λ c. c.kind < 256) new → AllFit a new → AllFields a new → length new ≤ 2 * before → Packs before new
+  packs : (before : ℕ) (new : List Cell) → AllByRecursion (λ c. c.kind < 256) new → AllFit a new → AllFields a new → length new ≤ 2 * before → Packs before new
   packs before new k fit fields few = record {
     kinds = k;
     fit = pass_each Fit fits 0 new (each_weaker (λ c. fit_cell a c ≡ true) (λ c. fits c ≡ true) fits_each new fit);
@@ -70,7 +70,7 @@ module _ (a : Answers) where
     few = few;
   }
 
-  pub rule_packs : (rule : Rule) (cells new : List Cell) → All (λ c. c.kind < 256) cells → Accepted a cells → rule_answer a rule cells ≡ Ok new → Packs (length cells) new
+  pub rule_packs : (rule : Rule) (cells new : List Cell) → AllByRecursion (λ c. c.kind < 256) cells → Accepted a cells → rule_answer a rule cells ≡ Ok new → Packs (length cells) new
   rule_packs Sink cells new k h e =
       let sums = granted_then (sink_sums a cells) (λ _. Ok (sunk_plan a cells)) new e in
       let p = passed a cells h in

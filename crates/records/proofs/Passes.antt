@@ -1,6 +1,6 @@
 -- A test of each in turn, as a loop makes it.
 use Rattle.std.proofs.Common.{◌≡◌, ℕ, ◌+◌, ◌<◌, ◌≤◌, Bool, true, false, cond, List, [], ◌∷◌, map, length, get_or, drop, Ok, refl, ◌∙◌, arith}
-use Rattle.std.specs.List.{AllByRecursion as All}
+use Rattle.std.specs.List.{AllByRecursion}
 use Rattle.std.proofs.lemmas.List.{at_drop_more, at_drop_all}
 use Rattle.plan.specs.declared.refusals.Refusal.{Refusal}
 use Rattle.plan.specs.Refusals.{refused_at}
@@ -17,17 +17,17 @@ module _ {A : Type 0} (r : Refusal) (test : A → Bool) (xs : List A) (i : ℕ) 
   pass_all h = at_drop_all (all_pass r test i) xs i h
 
 -- what was granted passed the test
-pub passed : {A : Type 0} (r : Refusal) (test : A → Bool) (i : ℕ) (xs : List A) → all_pass r test i xs ≡ Ok tt → All (λ x. test x ≡ true) xs
+pub passed : {A : Type 0} (r : Refusal) (test : A → Bool) (i : ℕ) (xs : List A) → all_pass r test i xs ≡ Ok tt → AllByRecursion (λ x. test x ≡ true) xs
 passed r test i [] e = tt
 passed {A} r test i (x ∷ xs) e = go (test x) refl e (passed r test (i + 1) xs)
   where
     go : (t : Bool) → test x ≡ t → cond t (all_pass r test (i + 1) xs) (refused_at r i) ≡ Ok tt
-        → (all_pass r test (i + 1) xs ≡ Ok tt → All (λ y. test y ≡ true) xs) → (test x ≡ true) × All (λ y. test y ≡ true) xs
+        → (all_pass r test (i + 1) xs ≡ Ok tt → AllByRecursion (λ y. test y ≡ true) xs) → (test x ≡ true) × AllByRecursion (λ y. test y ≡ true) xs
     go true p q rest = (p, rest q)
     go false p q rest = let z : ◌≡◌ {A = ℕ} 0 1 = cc in absurd (omega arith)
 
 -- what passes the test is granted
-pub pass_each : {A : Type 0} (r : Refusal) (test : A → Bool) (i : ℕ) (xs : List A) → All (λ x. test x ≡ true) xs → all_pass r test i xs ≡ Ok tt
+pub pass_each : {A : Type 0} (r : Refusal) (test : A → Bool) (i : ℕ) (xs : List A) → AllByRecursion (λ x. test x ≡ true) xs → all_pass r test i xs ≡ Ok tt
 pass_each r test i [] h = refl
 pass_each r test i (x ∷ xs) h = rw h.0 (pass_each r test (i + 1) xs h.1)
 

@@ -1,6 +1,6 @@
 -- What bytes unpack to, whichever room the table has beyond what they need.
 use Rattle.std.proofs.Common.{◌≡◌, ℕ, ◌*◌, ◌/◌, ◌%◌, ◌<◌, ◌≤◌, Bool, true, false, cond, not, eqb, ltb, List, map, length, Ok, Err, Result, sym, refl, ap, ◌∙◌, subst, arith, le-ltb, eqb-true}
-use Rattle.std.specs.List.{AllByRecursion as All}
+use Rattle.std.specs.List.{AllByRecursion}
 use Rattle.std.proofs.lemmas.List.{length-map}
 use Rattle.plan.specs.declared.cells.Cell.{Cell}
 use Rattle.plan.specs.declared.refusals.Fault.{Fault}
@@ -22,7 +22,7 @@ enough bytes room more h k =
 -- what was read: as many cells as there are records, of kinds of 8 bits
 pub record Read (bytes : List ℕ) (cells : List Cell) : Type 0 where
   pub whole : length bytes ≡ record_size * length cells
-  pub kinds : All (λ c. c.kind < 256) cells
+  pub kinds : AllByRecursion (λ c. c.kind < 256) cells
 
 read_by : (bytes : List ℕ) (p q : Bool) (r : Result (Unit {0}) Fault) (cells : List Cell) → eqb (length bytes % record_size) 0 ≡ p
     → cond (not p) (refused_at Packed 0) (then r (λ _. cond q (refused_at Room 0) (Ok (map cell_of (plan_values bytes))))) ≡ Ok cells → Read bytes cells

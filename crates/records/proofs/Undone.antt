@@ -1,7 +1,7 @@
 -- Packing and unpacking undo each other: for a field, a record and a plan.
 use Rattle.std.proofs.Common.{◌≡◌, ℕ, zero, suc, ◌*◌, ◌/◌, ◌%◌, ◌^◌, ◌<◌, ◌≤◌, Bool, true, false, cond, not, ◌&&◌, ◌||◌, eqb, leb, List, [], ◌∷◌, ◌++◌, map, length, get_or, take, drop, is_some, Some, None, Ok, Option, unwrap_or, sym, refl, ap, ◌∙◌, arith, le-ltb, eq-eqb, eqb-true, le-leb, leb-true}
 use mathlib.Core.List.{map-map}
-use Rattle.std.specs.List.{AllByRecursion as All}
+use Rattle.std.specs.List.{AllByRecursion}
 use Rattle.std.proofs.ByRecursion.{All-take, All-drop}
 use Rattle.std.proofs.lemmas.List.{length-map, length-take, length-drop, take_at, drop_at, take-append-drop, nil_from_length}
 use Rattle.std.proofs.lemmas.Bool.{and_parts, and_from}
@@ -145,13 +145,13 @@ range_back n =
     let x = eqb (get_or vs 5 0) 1 in
     rw (small_told f (get_or vs 6 0) (omega arith), small_told x (get_or vs 7 0) (omega arith), small_skip x (get_or vs 7 0) (omega arith), no_skip_told x (get_or vs 7 0))
 
-below_octets : (size : ℕ) (bs : List ℕ) → length bs ≡ size → All (λ b. b < 256) bs → Below (octets size) bs
+below_octets : (size : ℕ) (bs : List ℕ) → length bs ≡ size → AllByRecursion (λ b. b < 256) bs → Below (octets size) bs
 below_octets zero [] e h = tt
 below_octets zero (b ∷ bs) e h = absurd (omega arith)
 below_octets (suc k) [] e h = absurd (omega arith)
 below_octets (suc k) (b ∷ bs) e h = (h.0, below_octets k bs (omega arith) h.1)
 
-record_back : (r : List ℕ) → length r ≡ record_size → All (λ b. b < 256) r → sound (values_in r) ≡ true → packed (cell_of (values_in r)) ≡ r
+record_back : (r : List ℕ) → length r ≡ record_size → AllByRecursion (λ b. b < 256) r → sound (values_in r) ≡ true → packed (cell_of (values_in r)) ≡ r
 record_back r e small s =
     ap (λ (vs : List ℕ). cut (octets record_size) (joined layout vs)) (values_back (joined (octets record_size) r) s)
     ∙ through (octets record_size) layout r refl (below_octets record_size r e small)
@@ -165,15 +165,15 @@ records_forth (c ∷ cs) =
     let rest : drop record_size (packed c ++ packed_plan cs) ≡ packed_plan cs = drop_at (packed c) (packed_plan cs) record_size refl in
     rw (here, rest, records_forth cs)
 
-all_values_forth : (cs : List Cell) → All (λ c. c.kind < 256) cs → All (λ c. fits c ≡ true) cs → All (λ c. in_range c ≡ true) cs → map values_in (map packed cs) ≡ map values_of cs
+all_values_forth : (cs : List Cell) → AllByRecursion (λ c. c.kind < 256) cs → AllByRecursion (λ c. fits c ≡ true) cs → AllByRecursion (λ c. in_range c ≡ true) cs → map values_in (map packed cs) ≡ map values_of cs
 all_values_forth [] k f h = refl
 all_values_forth (c ∷ cs) k f h = rw (values_forth c k.0 f.0 h.0, all_values_forth cs k.1 f.1 h.1)
 
-cells_forth : (cs : List Cell) → All (λ c. in_range c ≡ true) cs → map cell_of (map values_of cs) ≡ cs
+cells_forth : (cs : List Cell) → AllByRecursion (λ c. in_range c ≡ true) cs → map cell_of (map values_of cs) ≡ cs
 cells_forth [] h = refl
 cells_forth (c ∷ cs) h = rw (cell_forth c h.0, cells_forth cs h.1)
 
-pub plan_forth : (cs : List Cell) → All (λ c. c.kind < 256) cs → all_pass Fit fits 0 cs ≡ Ok tt → all_pass Fields in_range 0 cs ≡ Ok tt → unpacking (packed_plan cs) (length cs) ≡ Ok cs
+pub plan_forth : (cs : List Cell) → AllByRecursion (λ c. c.kind < 256) cs → all_pass Fit fits 0 cs ≡ Ok tt → all_pass Fields in_range 0 cs ≡ Ok tt → unpacking (packed_plan cs) (length cs) ≡ Ok cs
 plan_forth cs k f h =
     let n = length (packed_plan cs) in
     let l = length_packed cs in
@@ -183,7 +183,7 @@ plan_forth cs k f h =
 
 -- bytes through their plan
 
-bytes_back : (n : ℕ) (bs : List ℕ) → length bs ≡ record_size * n → All (λ b. b < 256) bs → All (λ vs. sound vs ≡ true) (map values_in (records n bs))
+bytes_back : (n : ℕ) (bs : List ℕ) → length bs ≡ record_size * n → AllByRecursion (λ b. b < 256) bs → AllByRecursion (λ vs. sound vs ≡ true) (map values_in (records n bs))
     → packed_plan (map cell_of (map values_in (records n bs))) ≡ bs
 bytes_back zero bs e small s = sym (nil_from_length bs (omega arith))
 bytes_back (suc n) bs e small s =
@@ -198,7 +198,7 @@ pass_cells : (r : Refusal) (test : Cell → Bool) → ((n : ℕ) → test (cell_
 pass_cells r test h rs =
     ap (all_pass r test 0) (map-map cell_of values_in rs) ∙ pass_map r test (λ (b : List ℕ). cell_of (values_in b)) (λ (b : List ℕ). h (joined (octets record_size) b)) 0 rs
 
-pub plan_back : (bs : List ℕ) → length bs % record_size ≡ 0 → All (λ b. b < 256) bs → all_pass Packed sound 0 (plan_values bs) ≡ Ok tt → packing (map cell_of (plan_values bs)) (length bs) ≡ Ok bs
+pub plan_back : (bs : List ℕ) → length bs % record_size ≡ 0 → AllByRecursion (λ b. b < 256) bs → all_pass Packed sound 0 (plan_values bs) ≡ Ok tt → packing (map cell_of (plan_values bs)) (length bs) ≡ Ok bs
 plan_back bs e small s =
     let n = length bs / record_size in
     let cells = map cell_of (plan_values bs) in
@@ -211,6 +211,6 @@ plan_back bs e small s =
     )
 
 -- a kind that was read is a number of 8 bits
-pub kinds_read : (rs : List (List ℕ)) → All (λ c. c.kind < 256) (map cell_of (map values_in rs))
+pub kinds_read : (rs : List (List ℕ)) → AllByRecursion (λ c. c.kind < 256) (map cell_of (map values_in rs))
 kinds_read [] = tt
 kinds_read (r ∷ rs) = (omega arith, kinds_read rs)

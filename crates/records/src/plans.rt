@@ -1,6 +1,6 @@
 // Plans as packed bytes.
 ghost use Rattle.std.specs.Prelude.{◌≡◌, ◌+◌, ◌*◌, ◌/◌, ◌<◌, ◌≤◌, ◌++◌, map, length, take, drop, IfOk, Ok};
-ghost use Rattle.std.specs.List.{AllByRecursion as All};
+ghost use Rattle.std.specs.List.{AllByRecursion};
 ghost use Rattle.plan.specs.declared.refusals.Refusal.TheVariants.{Packed, Fit, Fields};
 ghost use Rattle.plan.specs.Cells.{blank};
 ghost use Rattle.records.specs.Fields.{joined};
@@ -61,7 +61,7 @@ fn check_range(cells: &[Cell]) -> Result<(), Fault>
 fn write_plan(cells: &[Cell], out: &mut [u8])
     requires { record_size * length cells.now ≤ length out.old }
     ensures bytes { out.new ≡ packed_plan cells.now ++ drop (record_size * length cells.now) out.old }
-    ensures kinds { All (λ c. c.kind < 256) cells.now }
+    ensures kinds { AllByRecursion (λ c. c.kind < 256) cells.now }
 {
     for place in 0..cells.len() {
         let at = RECORD * place;

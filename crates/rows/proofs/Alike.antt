@@ -1,6 +1,6 @@
 -- Cells of the same kinds, child counts and parameters have the same trees, fits, facts and counts. Assumes nothing.
 use Rattle.std.proofs.Common.{◌≡◌, ℕ, suc, ◌+◌, ◌-◌, ◌<◌, List, [], ◌∷◌, length, drop, sym, refl, ap, ◌∙◌, subst}
-use Rattle.std.specs.List.{AllZip, AllByRecursion as All}
+use Rattle.std.specs.List.{AllZip, AllByRecursion}
 use Rattle.plan.specs.declared.cells.Cell.{Cell}
 use Rattle.operators.specs.Answers.{Answers}
 use Rattle.operators.specs.Questions.{fits_of}
@@ -18,7 +18,7 @@ length_alike [] (d ∷ ds) h = absurd h
 length_alike (c ∷ cs) [] h = absurd h
 length_alike (c ∷ cs) (d ∷ ds) h = ap suc (length_alike cs ds h.1)
 
-pub kinds_alike : (most : ℕ) (cs ds : List Cell) → AllZip Alike cs ds → All (λ c. c.kind < most) cs → All (λ c. c.kind < most) ds
+pub kinds_alike : (most : ℕ) (cs ds : List Cell) → AllZip Alike cs ds → AllByRecursion (λ c. c.kind < most) cs → AllByRecursion (λ c. c.kind < most) ds
 kinds_alike most [] [] h k = tt
 kinds_alike most [] (d ∷ ds) h k = absurd h
 kinds_alike most (c ∷ cs) [] h k = absurd h

@@ -1,6 +1,6 @@
 -- Hint keeps the rows: hinted or not, a plan whose hints are borne out has the rows of the plan with no hints. Assumes nothing.
 use Rattle.std.proofs.Common.{◌≡◌, ℕ, ◌+◌, ◌-◌, ◌<◌, ◌≤◌, Bool, true, false, cond, not, ◌&&◌, ◌||◌, eqb, List, [], ◌∷◌, map, length, take, drop, is_some, Some, None, Option, sym, refl, ap, ◌∙◌, subst, arith}
-use Rattle.std.specs.List.{AllZip, AllByRecursion as All}
+use Rattle.std.specs.List.{AllZip, AllByRecursion}
 use Rattle.std.proofs.lemmas.Bool.{and_parts, and_from, or_left, or_right, false≢true, eqb-true}
 use Rattle.std.proofs.lemmas.Bool.Decides.{nat_tests}
 use Rattle.plan.specs.declared.cells.Cell.{Cell}
@@ -33,7 +33,7 @@ bare_same c e = ap (with_hint c) (sym e)
 abbrev pub Placed : Answers → Cell → Type 0
 Placed a c = fetch_taken a c × ((not (is_some c.hint) || eqb c.kind aggregate) ≡ true)
 
-pub fields_placed : (a : Answers) (cs : List Cell) → Fields a cs → All (Placed a) cs
+pub fields_placed : (a : Answers) (cs : List Cell) → Fields a cs → AllByRecursion (Placed a) cs
 fields_placed a [] h = tt
 fields_placed a (c ∷ cs) h = ((fields_fetch a c h.0, on_aggregate c h.0), fields_placed a cs h.1)
   where
@@ -171,7 +171,7 @@ module _ (a : Answers) (m : Meaning) (rules : Rules a m) where
       let long : 0 < length (rows m (d ∷ ds)) = let count = rows_count m (n - 1 + c.children) (d ∷ ds) tree in omega arith in
       some_made c g e nine plain (cutless_nine c c.fetch nine placed.0) one fit d d.hint ws (rows m (d ∷ ds)) long hs.0 k
 
-  told : (cs : List Cell) (n : ℕ) (u : Option Cell) → Trees n cs → Fit a cs → All (Placed a) cs → Hints a u cs → Told cs (rows m (bares cs)) (rows m cs)
+  told : (cs : List Cell) (n : ℕ) (u : Option Cell) → Trees n cs → Fit a cs → AllByRecursion (Placed a) cs → Hints a u cs → Told cs (rows m (bares cs)) (rows m cs)
   unfolding rows
   told [] n u tree fit placed h = refl
   told (c ∷ cs) n u tree fit placed h =
@@ -274,7 +274,7 @@ module _ (a : Answers) where
   next_before s c (Some f) e = next_before_by s c f (is_limit c.kind && not c.mark) e refl
 
   -- the new plan's hints are borne out too
-  pub hinted_hints : (cs : List Cell) (s : Option Handed) (u v : Option Cell) → Before s u v → All (Placed a) cs → Hints a u cs → Hints a v (hinted a s cs)
+  pub hinted_hints : (cs : List Cell) (s : Option Handed) (u v : Option Cell) → Before s u v → AllByRecursion (Placed a) cs → Hints a u cs → Hints a v (hinted a s cs)
   unfolding hinted
   hinted_hints [] s u v k placed h = tt
   hinted_hints (c ∷ cs) s u v k placed h =
@@ -302,7 +302,7 @@ module _ (a : Answers) where
   placed_now None c p = p
   placed_now (Some h) c p = placed_by c h.hint h.group (takes_hint a h.group c) refl p
 
-  hinted_placed : (cs : List Cell) (s : Option Handed) → All (Placed a) cs → All (Placed a) (hinted a s cs)
+  hinted_placed : (cs : List Cell) (s : Option Handed) → AllByRecursion (Placed a) cs → AllByRecursion (Placed a) (hinted a s cs)
   unfolding hinted
   hinted_placed [] s p = tt
   hinted_placed (c ∷ cs) s p = (placed_now s c p.0, hinted_placed cs (hint_next a s c) p.1)
@@ -317,7 +317,7 @@ module _ (a : Answers) (m : Meaning) (rules : Rules a m) where
       go (Some g) h k = absurd (false≢true (and_parts (a.plain_distinct c.parameter) false h).1)
 
   -- an accepted plan has the rows of the plan with no hints
-  unhinted_rows : (cs : List Cell) → Trees 1 cs → Fit a cs → All (Placed a) cs → Hints a None cs → rows m (bares cs) ≡ rows m cs
+  unhinted_rows : (cs : List Cell) → Trees 1 cs → Fit a cs → AllByRecursion (Placed a) cs → Hints a None cs → rows m (bares cs) ≡ rows m cs
   unhinted_rows cs tree fit placed h = told_root cs h _ _ (told a m rules cs 1 None tree fit placed h)
 
   pub hint_keeps : (cs : List Cell) → Trees 1 cs → Fit a cs → Fields a cs → Hints a None cs → rows m (hinted_plan a cs) ≡ rows m cs

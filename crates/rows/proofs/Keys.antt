@@ -1,6 +1,6 @@
 -- Each key once: a beginning of such a list is its own keys. Assumes nothing.
 use Rattle.std.proofs.Common.{◌≡◌, ℕ, zero, suc, ◌-◌, ◌≤◌, min, Bool, true, false, cond, not, List, [], ◌∷◌, map, take, drop, filter, sym, refl, ap, ◌∙◌, arith}
-use Rattle.std.specs.List.{AllByRecursion as All}
+use Rattle.std.specs.List.{AllByRecursion}
 use Rattle.std.proofs.ByRecursion.{All-take}
 use Rattle.std.proofs.lemmas.Bool.Decides.{nat_tests}
 use Rattle.operators.specs.Rows.{Row, Partitions}
@@ -9,32 +9,32 @@ use Rattle.checks.specs.Cells.{need_of}
 use Rattle.rows.proofs.Agreeing.{take_twice, drop_of_take}
 
 module _ (t : Row → Bool) where
-  all_kept_by : (P : Row → Type 0) (x : Row) (xs : List Row) (b : Bool) → P x → All P xs → All P (cond b (x ∷ xs) xs)
+  all_kept_by : (P : Row → Type 0) (x : Row) (xs : List Row) (b : Bool) → P x → AllByRecursion P xs → AllByRecursion P (cond b (x ∷ xs) xs)
   all_kept_by P x xs true h k = (h, k)
   all_kept_by P x xs false h k = k
 
-  all_kept : (P : Row → Type 0) (xs : List Row) → All P xs → All P (filter t xs)
+  all_kept : (P : Row → Type 0) (xs : List Row) → AllByRecursion P xs → AllByRecursion P (filter t xs)
   all_kept P [] h = tt
   all_kept P (x ∷ xs) h = all_kept_by P x (filter t xs) (t x) h.0 (all_kept P xs h.1)
 
-  kept_pass_by : (x : Row) (xs : List Row) (b : Bool) → t x ≡ b → All (λ y. t y ≡ true) xs → All (λ y. t y ≡ true) (cond b (x ∷ xs) xs)
+  kept_pass_by : (x : Row) (xs : List Row) (b : Bool) → t x ≡ b → AllByRecursion (λ y. t y ≡ true) xs → AllByRecursion (λ y. t y ≡ true) (cond b (x ∷ xs) xs)
   kept_pass_by x xs true e k = (e, k)
   kept_pass_by x xs false e k = k
 
-  kept_pass : (xs : List Row) → All (λ y. t y ≡ true) (filter t xs)
+  kept_pass : (xs : List Row) → AllByRecursion (λ y. t y ≡ true) (filter t xs)
   kept_pass [] = tt
   kept_pass (x ∷ xs) = kept_pass_by x (filter t xs) (t x) refl (kept_pass xs)
 
-  kept_whole : (xs : List Row) → All (λ y. t y ≡ true) xs → filter t xs ≡ xs
+  kept_whole : (xs : List Row) → AllByRecursion (λ y. t y ≡ true) xs → filter t xs ≡ xs
   kept_whole [] h = refl
   kept_whole (x ∷ xs) h = ap (λ b. cond b (x ∷ filter t xs) (filter t xs)) h.0 ∙ ap (λ z. x ∷ z) (kept_whole xs h.1)
 
 -- no row stands twice
 abbrev Once : List Row → Type 0
 Once [] = Unit {0}
-Once (x ∷ xs) = All (λ y. not (same_row x y) ≡ true) xs × Once xs
+Once (x ∷ xs) = AllByRecursion (λ y. not (same_row x y) ≡ true) xs × Once xs
 
-once_kept_by : (x : Row) (xs : List Row) (b : Bool) → All (λ y. not (same_row x y) ≡ true) xs → Once xs → Once (cond b (x ∷ xs) xs)
+once_kept_by : (x : Row) (xs : List Row) (b : Bool) → AllByRecursion (λ y. not (same_row x y) ≡ true) xs → Once xs → Once (cond b (x ∷ xs) xs)
 once_kept_by x xs true h k = (h, k)
 once_kept_by x xs false h k = k
 
@@ -55,16 +55,16 @@ once_same : (xs : List Row) → Once xs → once xs ≡ xs
 once_same [] h = refl
 once_same (x ∷ xs) h = ap (λ z. x ∷ filter (λ y. not (same_row x y)) z) (once_same xs h.1) ∙ ap (λ z. x ∷ z) (kept_whole (λ y. not (same_row x y)) xs h.0)
 
-all_once : (P : Row → Type 0) (xs : List Row) → All P xs → All P (once xs)
+all_once : (P : Row → Type 0) (xs : List Row) → AllByRecursion P xs → AllByRecursion P (once xs)
 all_once P [] h = tt
 all_once P (x ∷ xs) h = (h.0, all_kept (λ y. not (same_row x y)) P (once xs) (all_once P xs h.1))
 
 module _ (key : Row → Row) (twice : (r : Row) → key (key r) ≡ key r) where
-  all_keys : (xs : List Row) → All (λ y. key y ≡ y) (map key xs)
+  all_keys : (xs : List Row) → AllByRecursion (λ y. key y ≡ y) (map key xs)
   all_keys [] = tt
   all_keys (x ∷ xs) = (twice x, all_keys xs)
 
-  own_keys : (xs : List Row) → All (λ y. key y ≡ y) xs → map key xs ≡ xs
+  own_keys : (xs : List Row) → AllByRecursion (λ y. key y ≡ y) xs → map key xs ≡ xs
   own_keys [] h = refl
   own_keys (x ∷ xs) h = λ i. h.0 i ∷ own_keys xs h.1 i
 

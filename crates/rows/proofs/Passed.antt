@@ -2,7 +2,7 @@
 use Rattle.std.proofs.Common.{◌≡◌, ℕ, ◌+◌, ◌-◌, ◌<◌, Bool, true, false, cond, eqb, List, [], ◌∷◌, is_ok, Some, None, Ok, Err, Option, Result, refl, ap, ◌∙◌, arith, eq-eqb, ne_eqb, eqb-true}
 use borrow.Author.Tests.{eqb-false}
 use Rattle.std.proofs.lemmas.Bool.{false≢true}
-use Rattle.std.specs.List.{AllByRecursion as All}
+use Rattle.std.specs.List.{AllByRecursion}
 use Rattle.plan.specs.declared.cells.Cell.{Cell}
 use Rattle.plan.specs.declared.refusals.Fault.{Fault}
 use Rattle.plan.specs.declared.refusals.Refusal.{Refusal}
@@ -39,10 +39,10 @@ EachPasses test before (c ∷ cs) = (test before c ≡ true) × EachPasses test 
 
 -- each cell passes, whatever the cell before it
 abbrev pub Fit : Answers → List Cell → Type 0
-Fit a cs = All (λ c. fit_cell a c ≡ true) cs
+Fit a cs = AllByRecursion (λ c. fit_cell a c ≡ true) cs
 
 abbrev pub Fields : Answers → List Cell → Type 0
-Fields a cs = All (λ c. fields_cell a c ≡ true) cs
+Fields a cs = AllByRecursion (λ c. fields_cell a c ≡ true) cs
 
 -- each hint is borne out by the cell before it
 abbrev pub Hints : Answers → Option Cell → List Cell → Type 0
@@ -71,11 +71,11 @@ from_trees n at (c ∷ cs) h =
     let ne : eqb n 0 ≡ false = ne_eqb n 0 (λ e. let low = h.0 in omega arith) in
     ap (λ b. cond b (refused_at Tree at) (tree_from (n - 1 + c.children) (at + 1) cs)) ne ∙ from_trees (n - 1 + c.children) (at + 1) cs h.1
 
-all_of : (test : Cell → Bool) (before : Option Cell) (cs : List Cell) → EachPasses (λ u. test) before cs → All (λ c. test c ≡ true) cs
+all_of : (test : Cell → Bool) (before : Option Cell) (cs : List Cell) → EachPasses (λ u. test) before cs → AllByRecursion (λ c. test c ≡ true) cs
 all_of test before [] h = tt
 all_of test before (c ∷ cs) h = (h.0, all_of test (Some c) cs h.1)
 
-from_all : (test : Cell → Bool) (before : Option Cell) (cs : List Cell) → All (λ c. test c ≡ true) cs → EachPasses (λ u. test) before cs
+from_all : (test : Cell → Bool) (before : Option Cell) (cs : List Cell) → AllByRecursion (λ c. test c ≡ true) cs → EachPasses (λ u. test) before cs
 from_all test before [] h = tt
 from_all test before (c ∷ cs) h = (h.0, from_all test (Some c) cs h.1)
 

@@ -1,6 +1,6 @@
 -- Sink keeps an accepted plan accepted, if no sum is too large. Assumes nothing.
 use Rattle.std.proofs.Common.{◌≡◌, true, List, [], ◌∷◌, Ok, arith}
-use Rattle.std.specs.List.{AllByRecursion as All}
+use Rattle.std.specs.List.{AllByRecursion}
 use Rattle.std.proofs.lemmas.Bool.Decides.{nat_tests}
 use Rattle.plan.specs.declared.cells.Cell.{Cell}
 use Rattle.operators.specs.Answers.{Answers}
@@ -16,7 +16,7 @@ use Rattle.sinks.proofs.Counting.{sunk_counts}
 use Rattle.sinks.proofs.Bearing.{sunk_hints}
 use Rattle.sinks.proofs.Small.{sunk_small}
 
-all_weaker : (T U : Cell → Type 0) → ((c : Cell) → T c → U c) → (cs : List Cell) → All T cs → All U cs
+all_weaker : (T U : Cell → Type 0) → ((c : Cell) → T c → U c) → (cs : List Cell) → AllByRecursion T cs → AllByRecursion U cs
 all_weaker T U e [] h = tt
 all_weaker T U e (c ∷ cs) h = (e c h.0, all_weaker T U e cs h.1)
 
@@ -27,7 +27,7 @@ module _ (a : Answers) where
   stands_part : (c : Cell) → fields_cell a c ≡ true → Stands a c
   stands_part c h = (grind (arith, nat_tests), grind (arith, nat_tests))
 
-  fields_from : (cs : List Cell) → All (λ c. small_cell c ≡ true) cs → All (Stands a) cs → Fields a cs
+  fields_from : (cs : List Cell) → AllByRecursion (λ c. small_cell c ≡ true) cs → AllByRecursion (Stands a) cs → Fields a cs
   fields_from [] s t = tt
   fields_from (c ∷ cs) s t =
       let small = s.0 in

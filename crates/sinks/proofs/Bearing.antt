@@ -1,7 +1,7 @@
 -- After sink each hint is still borne out. Assumes nothing.
 use Rattle.std.proofs.Common.{◌≡◌, ℕ, zero, suc, ◌+◌, ◌-◌, ◌≤◌, min, Bool, true, false, cond, not, ◌&&◌, ◌||◌, eqb, ltb, leb, ◌⊎◌, List, [], ◌∷◌, ◌++◌, take, replicate, is_some, Some, None, Option, sym, refl, ap, ◌∙◌, subst, inl, inr, arith}
 use Rattle.std.specs.Option.{option_to_list}
-use Rattle.std.specs.List.{AllByRecursion as All}
+use Rattle.std.specs.List.{AllByRecursion}
 use Rattle.std.proofs.lemmas.Bool.{and_parts, and_from, false≢true, le-leb, or_left}
 use Rattle.std.proofs.lemmas.Bool.Decides.{nat_tests}
 use Rattle.plan.specs.declared.cells.Cell.{Cell}
@@ -40,7 +40,7 @@ module _ (a : Answers) where
   Handing t u (r ∷ rs) fs = (p h : ℕ) → borne_out a t p h ≡ true → Good r (head_fact fs) u p h
 
   -- a new limit has no hint
-  put_hints : (u o : Option Cell) (d : Cell) (rest : List Cell) → All (λ l. l.hint ≡ None) (option_to_list o) → d.hint ≡ None → Hints a (Some d) rest → Hints a u (option_to_list o ++ d ∷ rest)
+  put_hints : (u o : Option Cell) (d : Cell) (rest : List Cell) → AllByRecursion (λ l. l.hint ≡ None) (option_to_list o) → d.hint ≡ None → Hints a (Some d) rest → Hints a u (option_to_list o ++ d ∷ rest)
   put_hints u None d rest eo ed h = (ap (hint_cell a u d) ed, h)
   put_hints u (Some l) d rest eo ed h = (ap (hint_cell a u l) eo.0, (ap (hint_cell a (Some l) d) ed, h))
 

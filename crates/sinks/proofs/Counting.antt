@@ -1,7 +1,7 @@
 -- After sink each subtree has as many partitions as before, and none is miscounted. Assumes nothing.
 use Rattle.std.proofs.Common.{◌≡◌, ℕ, zero, suc, ◌+◌, ◌-◌, ◌<◌, ◌≤◌, Bool, true, false, cond, not, ◌&&◌, ◌||◌, eqb, ltb, leb, List, [], ◌∷◌, ◌++◌, length, take, drop, replicate, Some, None, Option, sym, refl, ap, ◌∙◌, subst, arith}
 use Rattle.std.specs.Option.{option_to_list}
-use Rattle.std.specs.List.{AllByRecursion as All}
+use Rattle.std.specs.List.{AllByRecursion}
 use Rattle.std.proofs.ByRecursion.{All-drop}
 use Rattle.std.proofs.lemmas.Bool.{false≢true, eqb-true, ltb-true}
 use Rattle.std.proofs.lemmas.Bool.Decides.{nat_tests}
@@ -45,7 +45,7 @@ sames_split (suc k) q rs [] gs h = absurd h
 sames_split (suc k) q rs (f ∷ fs) [] h = absurd h
 sames_split (suc k) q rs (f ∷ fs) (g ∷ gs) h = let t = sames_split k q rs fs gs h.1 in ((λ i. h.0 i + t.0 i), t.1)
 
-singles_join : (k : ℕ) (q : GlobalRequirements) (rs : List GlobalRequirements) (fs : List Fact) → All (λ f. 1 ≤ f.partitions) fs → k ≤ length fs → (0 < q.skip → (together (take k fs)).partitions ≤ 1) → Singles rs (drop k fs) → Singles (replicate k q ++ rs) fs
+singles_join : (k : ℕ) (q : GlobalRequirements) (rs : List GlobalRequirements) (fs : List Fact) → AllByRecursion (λ f. 1 ≤ f.partitions) fs → k ≤ length fs → (0 < q.skip → (together (take k fs)).partitions ≤ 1) → Singles rs (drop k fs) → Singles (replicate k q ++ rs) fs
 singles_join zero q rs fs pos l few h = h
 singles_join (suc k) q rs [] pos l few h = absurd (let z : suc k ≤ 0 = l in omega arith)
 singles_join (suc k) q rs (f ∷ fs) pos l few h = (
@@ -67,7 +67,7 @@ module _ (a : Answers) where
   facts_count : (n : ℕ) (cs : List Cell) → Trees n cs → length (facts a cs) ≡ n
   facts_count n cs h = tree_facts a cs n 0 (from_trees n 0 cs h)
 
-  positive : (cs : List Cell) → Counted a cs → All (λ f. 1 ≤ f.partitions) (facts a cs)
+  positive : (cs : List Cell) → Counted a cs → AllByRecursion (λ f. 1 ≤ f.partitions) (facts a cs)
   unfolding facts
   positive [] h = tt
   positive (c ∷ cs) h =
@@ -258,7 +258,7 @@ module _ (a : Answers) (shown : AnswerRules a) where
           subst (λ z. Sames (r ∷ rs) (facts a (c ∷ cs)) (facts a z) × Counted a z) (sym (sunk_node a r rs c cs e))
           (counts_join a r rs (fact_of a c (facts a cs)) (drop k (facts a cs)) (drop k (facts a rest)) (put v rest) new parts.1)
 
-  sunk_counted : (cs : List Cell) (rs : List GlobalRequirements) → Trees (length rs) cs → Fit a cs → All (λ c. placed_cell c ≡ true) cs → Counted a cs → Singles rs (facts a cs) → AllCounted cs rs
+  sunk_counted : (cs : List Cell) (rs : List GlobalRequirements) → Trees (length rs) cs → Fit a cs → AllByRecursion (λ c. placed_cell c ≡ true) cs → Counted a cs → Singles rs (facts a cs) → AllCounted cs rs
   unfolding sunk
   sunk_counted [] [] tree fit placed count single = (tt, tt)
   sunk_counted [] (r ∷ rs) tree fit placed count single = absurd (let z : suc (length rs) ≡ 0 = tree in omega arith)
@@ -275,7 +275,7 @@ module _ (a : Answers) (shown : AnswerRules a) where
   first_same (f ∷ fs) [] h = absurd h
   first_same (f ∷ fs) (g ∷ gs) h = h.0
 
-  pub sunk_counts : (cs : List Cell) → Trees 1 cs → Fit a cs → All (λ c. placed_cell c ≡ true) cs → Counted a cs → Counted a (sunk_plan a cs) × (root_partitions a (sunk_plan a cs) ≡ root_partitions a cs)
+  pub sunk_counts : (cs : List Cell) → Trees 1 cs → Fit a cs → AllByRecursion (λ c. placed_cell c ≡ true) cs → Counted a cs → Counted a (sunk_plan a cs) × (root_partitions a (sunk_plan a cs) ≡ root_partitions a cs)
   sunk_counts cs tree fit placed count =
       let h = sunk_counted cs (at_first ∷ []) tree fit placed count (first_single (facts a cs) (facts_count a 1 cs tree)) in
       (h.1, first_same (facts a cs) (facts a (sunk_plan a cs)) h.0)

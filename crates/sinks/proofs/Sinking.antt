@@ -2,7 +2,7 @@
 use Rattle.std.proofs.Common.{◌≡◌, ℕ, zero, suc, ◌+◌, ◌-◌, ◌<◌, Bool, true, false, cond, not, ◌&&◌, ◌||◌, eqb, ltb, ◌⊎◌, List, [], ◌∷◌, ◌++◌, map, length, take, drop, replicate, is_some, Some, None, Option, sym, refl, ap, ◌∙◌, subst, arith}
 use mathlib.Core.List.{map-append}
 use Rattle.std.specs.Option.{option_to_list}
-use Rattle.std.specs.List.{AllByRecursion as All}
+use Rattle.std.specs.List.{AllByRecursion}
 use Rattle.std.proofs.lemmas.List.{length-map, length-append, length-replicate, nil_from_length}
 use Rattle.std.proofs.lemmas.Bool.{and_parts, false≢true, eqb-true}
 use Rattle.std.proofs.lemmas.Bool.Decides.{nat_tests}
@@ -546,7 +546,7 @@ ready_visited a r c partitions None = ready_skipped (ltb 0 r.skip && not r.satis
 ready_visited a r c partitions (Some n) = ready_fetching (combines_partitions c.kind) (passes_limits a c.kind c.parameter) (takes_fetch a c.kind c.parameter) a r c partitions n
 
 -- what holds of a requirement holds of its copies
-pub all_copies : (P : GlobalRequirements → Type 0) (k : ℕ) (q : GlobalRequirements) (rs : List GlobalRequirements) → P q → All P rs → All P (replicate k q ++ rs)
+pub all_copies : (P : GlobalRequirements → Type 0) (k : ℕ) (q : GlobalRequirements) (rs : List GlobalRequirements) → P q → AllByRecursion P rs → AllByRecursion P (replicate k q ++ rs)
 all_copies P zero q rs h hs = hs
 all_copies P (suc k) q rs h hs = (h, all_copies P k q rs h hs)
 
@@ -558,7 +558,7 @@ trees_behind k q rs cs h =
 
 module _ (a : Answers) (m : Meaning) (rules : Rules a m) where
   -- one node, from what holds of the cells behind it under any requirements
-  node_held : (r : GlobalRequirements) (rs : List GlobalRequirements) (c : Cell) (cs : List Cell) → Trees (suc (length rs) - 1 + c.children) cs → fit_cell a c ≡ true → fetch_taken a c → Trues (facts a cs) (rows m cs) → Ready r → All Ready rs → ((qs : List GlobalRequirements) → Trees (length qs) cs → All Ready qs → Helds qs (facts a cs) (rows m cs) (rows m (sunk a qs cs))) → Helds (r ∷ rs) (facts a (c ∷ cs)) (rows m (c ∷ cs)) (rows m (sunk a (r ∷ rs) (c ∷ cs)))
+  node_held : (r : GlobalRequirements) (rs : List GlobalRequirements) (c : Cell) (cs : List Cell) → Trees (suc (length rs) - 1 + c.children) cs → fit_cell a c ≡ true → fetch_taken a c → Trues (facts a cs) (rows m cs) → Ready r → AllByRecursion Ready rs → ((qs : List GlobalRequirements) → Trees (length qs) cs → AllByRecursion Ready qs → Helds qs (facts a cs) (rows m cs) (rows m (sunk a qs cs))) → Helds (r ∷ rs) (facts a (c ∷ cs)) (rows m (c ∷ cs)) (rows m (sunk a (r ∷ rs) (c ∷ cs)))
   unfolding facts rows
   node_held r rs c cs tree fit taken t ready readys ih =
       subst (λ f. Helds (r ∷ rs) (f ∷ drop k (facts a cs)) (rows m (c ∷ cs)) (rows m (sunk a (r ∷ rs) (c ∷ cs)))) (sym (fact_own a c (facts a cs) fit)) (go (is_limit c.kind) refl)
@@ -592,7 +592,7 @@ module _ (a : Answers) (m : Meaning) (rules : Rules a m) where
           subst (λ z. Helds (r ∷ rs) fs (rows m (c ∷ cs)) (rows m z)) (sym (sunk_node a r rs c cs e))
           (subst (λ z. Helds (r ∷ rs) fs (rows m (c ∷ cs)) z) (sym here.1) (here.2, parts.1))
 
-  sunk_held : (cs : List Cell) (rs : List GlobalRequirements) → Trees (length rs) cs → Fit a cs → Fields a cs → All Ready rs → Helds rs (facts a cs) (rows m cs) (rows m (sunk a rs cs))
+  sunk_held : (cs : List Cell) (rs : List GlobalRequirements) → Trees (length rs) cs → Fit a cs → Fields a cs → AllByRecursion Ready rs → Helds rs (facts a cs) (rows m cs) (rows m (sunk a rs cs))
   sunk_held [] [] tree fit fields ready = tt
   sunk_held [] (r ∷ rs) tree fit fields ready = absurd (let z : suc (length rs) ≡ 0 = tree in omega arith)
   sunk_held (c ∷ cs) [] tree fit fields ready = tt
@@ -601,7 +601,7 @@ module _ (a : Answers) (m : Meaning) (rules : Rules a m) where
       (λ qs t rd. sunk_held cs qs t fit.1 fields.1 rd)
 
 -- the new cells are as many trees
-put_trees : (n : ℕ) (o : Option Cell) (d : Cell) (rest : List Cell) → 0 < n → All (λ l. l.children ≡ 1) (option_to_list o) → Trees (n - 1 + d.children) rest → Trees n (option_to_list o ++ d ∷ rest)
+put_trees : (n : ℕ) (o : Option Cell) (d : Cell) (rest : List Cell) → 0 < n → AllByRecursion (λ l. l.children ≡ 1) (option_to_list o) → Trees (n - 1 + d.children) rest → Trees n (option_to_list o ++ d ∷ rest)
 put_trees n None d rest low one h = (low, h)
 put_trees n (Some l) d rest low one h =
     let single = one.0 in

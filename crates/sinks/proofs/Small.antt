@@ -1,7 +1,7 @@
 -- If no sum is too large, no number of the new cells is. Assumes nothing.
 use Rattle.std.proofs.Common.{◌≡◌, ℕ, ◌+◌, ◌-◌, ◌≤◌, min, Bool, true, false, cond, not, ◌&&◌, ◌||◌, eqb, ltb, List, [], ◌∷◌, ◌++◌, replicate, is_some, Some, None, Ok, Option, sym, refl, ap, ◌∙◌, subst, arith}
 use Rattle.std.specs.Option.{option_to_list}
-use Rattle.std.specs.List.{AllByRecursion as All}
+use Rattle.std.specs.List.{AllByRecursion}
 use Rattle.std.proofs.ByRecursion.{All-append}
 use Rattle.std.proofs.lemmas.Bool.{false≢true}
 use Rattle.std.proofs.lemmas.Bool.Decides.{nat_tests}
@@ -30,7 +30,7 @@ Small r = (r.skip ≤ max_number) × (small r.fetch ≡ true)
 
 -- what a visit leaves is small
 abbrev SmallVisit : Visited → Type 0
-SmallVisit v = All SmallCell (option_to_list v.above) × SmallCell v.node × Small v.next
+SmallVisit v = AllByRecursion SmallCell (option_to_list v.above) × SmallCell v.node × Small v.next
 
 combined_small : (s : ℕ) (f g : Option ℕ) → small f ≡ true → small g ≡ true → small (combined_fetch s f g) ≡ true
 combined_small s None None x y = refl
@@ -59,7 +59,7 @@ module _ (a : Answers) (r : GlobalRequirements) (c : Cell) (k : Small r) (s : Sm
   global_small : (f : Option ℕ) → small f ≡ true → SmallCell (new_global r.skip f)
   global_small f e = let low = k.0 in grind (arith, nat_tests)
 
-  above_small : (b : Bool) (l : Cell) → SmallCell l → All SmallCell (option_to_list (only_if b l))
+  above_small : (b : Bool) (l : Cell) → SmallCell l → AllByRecursion SmallCell (option_to_list (only_if b l))
   above_small true l h = (h, tt)
   above_small false l h = tt
 
@@ -94,7 +94,7 @@ visited_small a r c P k s e =
     visited_by_small a own c (own_small r c.fetch k (fetch_small c s)) s P own.fetch e
 
 module _ (a : Answers) where
-  node_small : (r : GlobalRequirements) (rs : List GlobalRequirements) (at : ℕ) (c : Cell) (cs : List Cell) → SmallCell c → sink_sums_from a (r ∷ rs) at (c ∷ cs) ≡ Ok tt → Small r → All Small rs → ((qs : List GlobalRequirements) → sink_sums_from a qs (at + 1) cs ≡ Ok tt → All Small qs → All SmallCell (sunk a qs cs)) → All SmallCell (sunk a (r ∷ rs) (c ∷ cs))
+  node_small : (r : GlobalRequirements) (rs : List GlobalRequirements) (at : ℕ) (c : Cell) (cs : List Cell) → SmallCell c → sink_sums_from a (r ∷ rs) at (c ∷ cs) ≡ Ok tt → Small r → AllByRecursion Small rs → ((qs : List GlobalRequirements) → sink_sums_from a qs (at + 1) cs ≡ Ok tt → AllByRecursion Small qs → AllByRecursion SmallCell (sunk a qs cs)) → AllByRecursion SmallCell (sunk a (r ∷ rs) (c ∷ cs))
   unfolding sink_sums_from
   node_small r rs at c cs s e k ks ih = go (is_limit c.kind) refl
     where
@@ -107,28 +107,28 @@ module _ (a : Answers) where
       parts : (too_large (sink_sum r c) ≡ false) × (sink_sums_from a (replicate n next ++ rs) (at + 1) cs ≡ Ok tt)
       parts = refused_not (too_large (sink_sum r c)) Sum at (sink_sums_from a (replicate n next ++ rs) (at + 1) cs) tt e
 
-      below : (q : GlobalRequirements) → next ≡ q → Small q → All SmallCell (sunk a (replicate n q ++ rs) cs)
+      below : (q : GlobalRequirements) → next ≡ q → Small q → AllByRecursion SmallCell (sunk a (replicate n q ++ rs) cs)
       below q is small = ih (replicate n q ++ rs) (subst (λ x. sink_sums_from a (replicate n x ++ rs) (at + 1) cs ≡ Ok tt) is parts.1) (all_copies Small n q rs small ks)
 
-      go : (b : Bool) → is_limit c.kind ≡ b → All SmallCell (sunk a (r ∷ rs) (c ∷ cs))
+      go : (b : Bool) → is_limit c.kind ≡ b → AllByRecursion SmallCell (sunk a (r ∷ rs) (c ∷ cs))
       go true eb =
           let sum : ltb max_number (r.skip + c.skip) ≡ false = subst (λ b. too_large (sink_sum_by b r c) ≡ false) eb parts.0 in
           let child = head_fact (facts a cs) in
-          subst (All SmallCell) (sym (sunk_limit a r rs c cs eb)) (below (past_limit r c child) (ap (λ s. s.1) (step_limit a r c (facts a cs) eb)) (limit_small r c child k s (grind (arith, nat_tests))))
+          subst (AllByRecursion SmallCell) (sym (sunk_limit a r rs c cs eb)) (below (past_limit r c child) (ap (λ s. s.1) (step_limit a r c (facts a cs) eb)) (limit_small r c child k s (grind (arith, nat_tests))))
       go false eb =
           let P = (fact_of a c (facts a cs)).partitions in
           let v = visited a r c P in
           let here = visited_small a r c P k s (subst (λ b. too_large (sink_sum_by b r c) ≡ false) eb parts.0) in
-          subst (All SmallCell) (sym (sunk_node a r rs c cs eb))
+          subst (AllByRecursion SmallCell) (sym (sunk_node a r rs c cs eb))
           (All-append SmallCell (option_to_list v.above) (v.node ∷ sunk a (replicate n v.next ++ rs) cs) here.0 (here.1, below v.next (ap (λ s. s.1) (step_node a r c (facts a cs) eb)) here.2))
 
-  sunk_small_by : (cs : List Cell) (rs : List GlobalRequirements) (at : ℕ) → All SmallCell cs → sink_sums_from a rs at cs ≡ Ok tt → All Small rs → All SmallCell (sunk a rs cs)
+  sunk_small_by : (cs : List Cell) (rs : List GlobalRequirements) (at : ℕ) → AllByRecursion SmallCell cs → sink_sums_from a rs at cs ≡ Ok tt → AllByRecursion Small rs → AllByRecursion SmallCell (sunk a rs cs)
   unfolding sunk
   sunk_small_by [] rs at h e k = tt
   sunk_small_by (c ∷ cs) [] at h e k = tt
   sunk_small_by (c ∷ cs) (r ∷ rs) at h e k = node_small r rs at c cs h.0 e k.0 k.1 (λ qs e2 k2. sunk_small_by cs qs (at + 1) h.1 e2 k2)
 
-  pub sunk_small : (cs : List Cell) → All SmallCell cs → sink_sums a cs ≡ Ok tt → All SmallCell (sunk_plan a cs)
+  pub sunk_small : (cs : List Cell) → AllByRecursion SmallCell cs → sink_sums a cs ≡ Ok tt → AllByRecursion SmallCell (sunk_plan a cs)
   sunk_small cs h e = sunk_small_by cs (at_first ∷ []) 0 h e ((omega arith, refl), tt)
 
 -- a second visit forms no larger sum than the first

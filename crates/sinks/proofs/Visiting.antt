@@ -1,7 +1,7 @@
 -- What a visit leaves, and that a second visit of a node under its new limit changes nothing. Assumes nothing.
 use Rattle.std.proofs.Common.{◌≡◌, ℕ, ◌+◌, ◌-◌, ◌*◌, ◌≤◌, min, Bool, true, false, cond, not, ◌&&◌, ◌||◌, eqb, ltb, List, [], ◌∷◌, ◌++◌, length, replicate, is_some, Some, None, Option, sym, refl, ap, ◌∙◌, subst, append_assoc, arith}
 use Rattle.std.specs.Option.{option_to_list}
-use Rattle.std.specs.List.{AllByRecursion as All}
+use Rattle.std.specs.List.{AllByRecursion}
 use Rattle.std.proofs.lemmas.List.{length-append}
 use Rattle.std.proofs.lemmas.Bool.Decides.{nat_tests}
 use Rattle.plan.specs.declared.cells.Cell.{Cell}
@@ -115,7 +115,7 @@ module _ (a : Answers) (partitions : ℕ) where
 
 -- what holds of the limits that go above a node
 module _ (P : Cell → Type 0) (global : (s : ℕ) (f : Option ℕ) → P (new_global s f)) (local : (n : ℕ) → P (new_local n)) where
-  above_if : (b : Bool) (l : Cell) → P l → All P (option_to_list (only_if b l))
+  above_if : (b : Bool) (l : Cell) → P l → AllByRecursion P (option_to_list (only_if b l))
   above_if true l h = (h, tt)
   above_if false l h = tt
 
@@ -123,21 +123,21 @@ module _ (P : Cell → Type 0) (global : (s : ℕ) (f : Option ℕ) → P (new_g
   some_limit true r n = global r.skip (Some n)
   some_limit false r n = local (n + r.skip)
 
-  skipped_above : (b : Bool) (r : GlobalRequirements) (c : Cell) → All P (option_to_list (skipped_by b r c).above)
+  skipped_above : (b : Bool) (r : GlobalRequirements) (c : Cell) → AllByRecursion P (option_to_list (skipped_by b r c).above)
   skipped_above true r c = (global r.skip None, tt)
   skipped_above false r c = tt
 
-  fetching_above : (x t y : Bool) (a : Answers) (r : GlobalRequirements) (c : Cell) (partitions n : ℕ) → All P (option_to_list (fetching_by x t y a r c partitions n).above)
+  fetching_above : (x t y : Bool) (a : Answers) (r : GlobalRequirements) (c : Cell) (partitions n : ℕ) → AllByRecursion P (option_to_list (fetching_by x t y a r c partitions n).above)
   fetching_above true t y a r c partitions n = above_if (ltb 0 r.skip) (new_global r.skip (Some n)) (global r.skip (Some n))
   fetching_above false true y a r c partitions n = tt
   fetching_above false false true a r c partitions n = above_if (ltb 0 r.skip && not r.satisfied) (new_global r.skip (Some n)) (global r.skip (Some n))
   fetching_above false false false a r c partitions n = let x = ltb 0 r.skip || eqb partitions 1 in above_if (not r.satisfied) (limit_over x r n) (some_limit x r n)
 
-  visited_above_by : (a : Answers) (r : GlobalRequirements) (c : Cell) (partitions : ℕ) (f : Option ℕ) → All P (option_to_list (visited_by a r c partitions f).above)
+  visited_above_by : (a : Answers) (r : GlobalRequirements) (c : Cell) (partitions : ℕ) (f : Option ℕ) → AllByRecursion P (option_to_list (visited_by a r c partitions f).above)
   visited_above_by a r c partitions None = skipped_above (ltb 0 r.skip && not r.satisfied) r c
   visited_above_by a r c partitions (Some n) = fetching_above (combines_partitions c.kind) (passes_limits a c.kind c.parameter) (takes_fetch a c.kind c.parameter) a r c partitions n
 
-  pub visited_above : (a : Answers) (r : GlobalRequirements) (c : Cell) (partitions : ℕ) → All P (option_to_list (visited a r c partitions).above)
+  pub visited_above : (a : Answers) (r : GlobalRequirements) (c : Cell) (partitions : ℕ) → AllByRecursion P (option_to_list (visited a r c partitions).above)
   visited_above a r c partitions = let own = past_fetch r c.fetch in visited_above_by a own c partitions own.fetch
 
 -- a mark stands where it is taken

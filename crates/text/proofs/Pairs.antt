@@ -1,7 +1,7 @@
 -- One digit more of a text of hexadecimal pairs. Assumes nothing.
 use Rattle.std.proofs.Common.{◌≡◌, ℕ, ◌+◌, ◌*◌, ◌/◌, ◌%◌, ◌<◌, true, false, List, [], ◌∷◌, ◌++◌, Some, None, Ok, sym, ap, ◌∙◌, arith}
 use Rattle.std.proofs.lemmas.Bool.Decides.{nat_tests}
-use Rattle.std.specs.List.{AllByRecursion as All}
+use Rattle.std.specs.List.{AllByRecursion}
 use Rattle.std.proofs.lemmas.List.{append_assoc, append-nil}
 use Rattle.text.specs.Hex.{digit_of, digit_text, hex_text, hex_read, is_blank, no_digit}
 
@@ -30,7 +30,7 @@ pub digit_back : (d : ℕ) → d < 16 → digit_of (digit_text d) ≡ Some d
 digit_back d h = grind (arith, nat_tests)
 
 -- what is written of bytes reads back, behind whatever was read before
-pub hex_back : (bs read : List ℕ) (i : ℕ) → All (λ b. b < 256) bs → hex_read read None i (hex_text bs) ≡ Ok (read ++ bs)
+pub hex_back : (bs read : List ℕ) (i : ℕ) → AllByRecursion (λ b. b < 256) bs → hex_read read None i (hex_text bs) ≡ Ok (read ++ bs)
 hex_back [] read i h = ap Ok (sym (append-nil read))
 hex_back (b ∷ bs) read i h =
     let u : b / 16 < 16 = omega (arith, h.0) in

@@ -1,5 +1,5 @@
 use Rattle.std.proofs.Common.{◌≡◌, ℕ, ◌+◌, ◌-◌, ◌<◌, ◌≤◌, true, List, [], reverse, length, get_or, take, None, vec_items, vec_len, sym, ap, ◌∙◌, subst, rules}
-use Rattle.std.specs.List.{AllByRecursion as All}
+use Rattle.std.specs.List.{AllByRecursion}
 use Rattle.std.proofs.ResultArms.{chosen}
 use Rattle.std.proofs.ByRecursion.{All-take, All-get_or}
 use Rattle.std.proofs.lemmas.List.{nil_from_length}
@@ -22,7 +22,7 @@ loop-cursor-preserved c =
     let turn = close_one (get_or items n 0) (reverse items) (reverse (take n items)) (rest here) (innermost items n 0 long) closed in
     let after = ap (close_at (reverse (take n items))) (sym left) ∙ sym (close_blanks (reverse (take n items)) (rest c.take.new.self)) in (
       search rules,
-      subst (λ (xs : List ℕ). All P xs) (sym cut) (All-take P _ _ c.loop-cursor.invariant.1),
+      subst (λ (xs : List ℕ). AllByRecursion P xs) (sym cut) (All-take P _ _ c.loop-cursor.invariant.1),
       c.loop-cursor.invariant.2 ∙ turn ∙ after ∙ sym (λ j. close_at (reverse (cut j)) (c.skip_blanks.ensures.past j)),
     )
 

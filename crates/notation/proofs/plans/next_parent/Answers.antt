@@ -1,5 +1,5 @@
 use Rattle.std.proofs.Common.{◌≡◌, ℕ, ◌≤◌, List, [], ◌∷◌, reverse, is_ok, Some, Ok, vec_items, sym, ap, ◌∙◌, subst, arith, rules}
-use Rattle.std.specs.List.{AllByRecursion as All}
+use Rattle.std.specs.List.{AllByRecursion}
 use Rattle.std.proofs.ResultArms.{chosen}
 use Rattle.std.proofs.ByRecursion.{All-push}
 use Rattle.std.proofs.lemmas.List.{reverse-append}
@@ -21,7 +21,7 @@ returns-then-next-eq40 c =
     let on = one_on mid.text.now mid.place (search rules) in
     record {
       onward = search rules;
-      kept = subst (λ (xs : List ℕ). All P xs) (sym pushed) (All-push P _ _ c.requires (omega arith));
+      kept = subst (λ (xs : List ℕ). AllByRecursion P xs) (sym pushed) (All-push P _ _ c.requires (omega arith));
       parent = omega arith;
       value = ap (next_at (reverse items) c.args.last) (sym c.skip_blanks.ensures.past) ∙ next_open c.args.last (reverse items) (rest mid) opened ∙ sym (λ j. Ok ((Some c.args.last, deeper j), on j));
     }

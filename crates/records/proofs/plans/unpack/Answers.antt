@@ -1,5 +1,5 @@
 use Rattle.std.proofs.Common.{◌≡◌, ℕ, ◌-◌, ◌/◌, ◌%◌, ◌<◌, List, ◌++◌, map, length, take, drop, replicate, Ok, Result, sym, ap, ◌∙◌, arith, le-ltb, eq-eqb}
-use Rattle.std.specs.List.{AllByRecursion as All}
+use Rattle.std.specs.List.{AllByRecursion}
 use Rattle.std.proofs.ByRecursion.{All-from_get_or}
 use Rattle.std.proofs.lemmas.List.{length-map, take_at, drop-replicate}
 use Rattle.plan.specs.declared.cells.Cell.{Cell}
@@ -27,7 +27,7 @@ returns c =
     let blanks : c.fill.new.self ≡ replicate room blank = c.fill.ensures.after (λ y e. e) in
     let behind : drop n c.fill.new.self ≡ replicate (room - length cells) blank = rw (blanks, l) (drop-replicate n room blank) in
     let front : take n c.read_plan.new.table ≡ cells = rw c.read_plan.ensures (take_at cells (drop n c.fill.new.self) n l) in
-    let small : All (λ b. b < 256) bs = All-from_get_or (λ b. b < 256) bs 0 (λ k h. omega (arith, c.type_inv.bytes k)) in
+    let small : AllByRecursion (λ b. b < 256) bs = All-from_get_or (λ b. b < 256) bs 0 (λ k h. omega (arith, c.type_inv.bytes k)) in
     record {
       answer = sym (ap counted granted ∙ ap (λ (k : ℕ). Ok k) l);
       cells = c.read_plan.ensures ∙ ap (λ (t : List Cell). cells ++ t) behind ∙ sym (ap (λ (r : Result (List Cell) Fault). laid blank r old) granted);

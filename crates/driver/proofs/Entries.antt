@@ -2,7 +2,7 @@
 use Rattle.std.proofs.Common.{◌≡◌, ℕ, ◌+◌, ◌<◌, ◌≤◌, min, Bool, true, false, ltb, List, [], ◌∷◌, ◌++◌, map, length, get_or, take, drop, set, sym, refl, ap, ◌∙◌, arith, ltb-false, ltb-true}
 use mathlib.Core.List.{map-append}
 use Rattle.std.proofs.lemmas.List.{drop_more, drop_all, take_more, take_more_set, take_all}
-use Rattle.driver.specs.declared.rows.OperatorRow.{OperatorRow}
+use Rattle.driver.specs.declared.row_types.OperatorRow.{OperatorRow}
 
 -- what is read past the end
 abbrev pub no_row : OperatorRow

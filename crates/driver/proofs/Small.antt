@@ -7,7 +7,7 @@ use Rattle.operators.specs.declared.answers.LimitEffect.TheVariants.{None, Unkno
 use Rattle.operators.specs.declared.answers.FrameBound.TheVariants.{Preceding, CurrentRow, Following, Other}
 use Rattle.operators.specs.declared.answers.WindowExpr.{WindowExpr}
 use Rattle.operators.specs.Windows.{number_in, following_in, Small, WindowSized}
-use Rattle.driver.specs.declared.rows.ExprRow.{ExprRow}
+use Rattle.driver.specs.declared.row_types.ExprRow.{ExprRow}
 use Rattle.driver.specs.Reading.{expr_of}
 use Rattle.driver.specs.Tables.{all_small, sized}
 

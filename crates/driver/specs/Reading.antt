@@ -19,8 +19,8 @@ use Rattle.operators.specs.declared.declarations.Shape.TheVariants.{Source, RowF
 use Rattle.operators.specs.declared.declarations.Declaration.{Declaration}
 use Rattle.limits.specs.declared.rules.Rule.{Rule}
 use Rattle.limits.specs.declared.rules.Rule.TheVariants.{Sink, Grow, Hint}
-use Rattle.driver.specs.declared.rows.ExprRow.{ExprRow}
-use Rattle.driver.specs.declared.rows.DeclarationRow.{DeclarationRow}
+use Rattle.driver.specs.declared.row_types.ExprRow.{ExprRow}
+use Rattle.driver.specs.declared.row_types.DeclarationRow.{DeclarationRow}
 
 -- 0 is sink, 1 grow, else hint
 abbrev pub rule_of : ℕ → Rule

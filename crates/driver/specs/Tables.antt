@@ -14,8 +14,8 @@ use Rattle.operators.specs.Answers.{Answers}
 use Rattle.operators.specs.Catalogue.{unknown_window}
 use Rattle.operators.specs.Declarations.{declared_answer}
 use Rattle.operators.specs.Windows.{number_in, following_in}
-use Rattle.driver.specs.declared.rows.OperatorRow.{OperatorRow}
-use Rattle.driver.specs.declared.rows.GroupRow.{GroupRow}
+use Rattle.driver.specs.declared.row_types.OperatorRow.{OperatorRow}
+use Rattle.driver.specs.declared.row_types.GroupRow.{GroupRow}
 use Rattle.driver.specs.Reading.{effect_of, known_empty_of}
 
 -- no number of an expression is too large

@@ -8,7 +8,7 @@ ghost use Rattle.driver.specs.Tables.{sized, table_answers, held};
 
 use crate::held::TableSet;
 use crate::reading::{declaration_of, expr_of, rule_of};
-use crate::rows::{DeclarationRow, ExprRow, GroupRow, OperatorRow};
+use crate::row_types::{DeclarationRow, ExprRow, GroupRow, OperatorRow};
 use limits::Rule;
 use operators::{
     CardinalityEffect, Declaration, DeclaredSet, FrameBound, FrameUnits, LimitEffect, Shape,

@@ -2,7 +2,7 @@
 ghost use Rattle.std.specs.Prelude.{◌≡◌, true};
 ghost use Rattle.driver.specs.Tables.{sized};
 
-use crate::rows::{GroupRow, OperatorRow};
+use crate::row_types::{GroupRow, OperatorRow};
 use operators::WindowExpr;
 
 /// Operators as a table has them: a row for a kind, a window for each `width` expressions, a row for an aggregate's parameter.

@@ -6,10 +6,10 @@ mod exports;
 mod held;
 mod reading;
 mod repeating;
-mod rows;
+mod row_types;
 mod tables;
 
 pub use exports::{driver_declared, driver_table};
 pub use held::TableSet;
 pub use repeating::driver_repeat;
-pub use rows::{DeclarationRow, ExprRow, GroupRow, OperatorRow};
+pub use row_types::{DeclarationRow, ExprRow, GroupRow, OperatorRow};

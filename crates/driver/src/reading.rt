@@ -2,7 +2,7 @@
 ghost use Rattle.std.specs.Prelude.{◌≡◌};
 ghost use Rattle.driver.specs.Reading.{rule_of, effect_of, known_empty_of, limit_effect_of, units_of, bound_of, expr_of, shape_of, declaration_of};
 
-use crate::rows::{DeclarationRow, ExprRow};
+use crate::row_types::{DeclarationRow, ExprRow};
 use limits::Rule;
 use operators::{
     CardinalityEffect, Declaration, FrameBound, FrameUnits, KnownEmpty, LimitEffect, Shape,

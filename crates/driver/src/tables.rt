@@ -4,7 +4,7 @@ ghost use Rattle.driver.specs.Tables.{row_of, no_group, table_answers};
 
 use crate::held::TableSet;
 use crate::reading::{effect_of, known_empty_of};
-use crate::rows::{GroupRow, OperatorRow};
+use crate::row_types::{GroupRow, OperatorRow};
 use operators::{
     CardinalityEffect, KnownEmpty, LimitsPass, OperatorSet, PartitionCount, WindowExpr,
 };

@@ -10,7 +10,7 @@ use super::facts::{check_partitions, fact_at};
 use super::shapes::check_tree;
 use super::single::{Single, check_cells};
 use operators::OperatorSet;
-use plan::{Cell, Fault, MAX_NODES, Refusal, Stack, wipe};
+use plan::{Cell, Fault, MAX_NODES, Refusal, Stack};
 
 /// The count is refused where it is 0, above 4,096 or above the number of the table's cells.
 pub fn check_count(table: usize, count: usize) -> Result<(), Fault>
@@ -90,6 +90,6 @@ pub fn check<O: OperatorSet>(
 {
     let mut known = Stack::new(memory);
     let answer = accept(set, table, count, &mut known);
-    wipe(memory, Fact::BLANK);
+    memory.fill(Fact::BLANK);
     answer
 }

@@ -88,7 +88,7 @@ fn gather(children: u8, known: &Stack<Fact>) -> Children
 fn known_rows<O: OperatorSet>(set: &O, cell: &Cell, all_empty: bool, child: KnownRows) -> KnownRows
     ensures { result ≡ rows_known (O.OperatorSet.answers set.now) cell.now all_empty child }
 {
-    match Kind::of(cell.kind) {
+    match Kind::from(cell.kind) {
         Kind::PlaceholderRow => KnownRows::OneRow,
         Kind::Projection => child,
         _ if known_empty(set, cell.kind, cell.parameter, all_empty) => KnownRows::NoRow,
@@ -124,7 +124,7 @@ fn counted(
 ) -> Result<(), Fault>
     ensures { result ≡ (if miscounted cell.now own child then refused_at Partitions place else behind) }
 {
-    let alone = !matches!(Kind::of(cell.kind), Kind::GlobalLimit) || child == 1;
+    let alone = !matches!(Kind::from(cell.kind), Kind::GlobalLimit) || child == 1;
     if own == 0 || own > MAX_PARTITIONS || !alone {
         return Err(Fault {
             refusal: Refusal::Partitions,

@@ -40,7 +40,7 @@ fn is_small(number: Option<u64>) -> bool
 fn is_placed(cell: &Cell) -> bool
     ensures { result ≡ placed_cell cell.now }
 {
-    let kind = Kind::of(cell.kind);
+    let kind = Kind::from(cell.kind);
     if cell.skip > 0 && !matches!(kind, Kind::GlobalLimit) {
         return false;
     }
@@ -73,7 +73,7 @@ fn fields_fit<O: OperatorSet>(set: &O, cell: &Cell) -> bool
 fn limit_bears(above: &Cell, hint: u64) -> bool
     ensures { result ≡ limit_bears above.now above.now.fetch hint }
 {
-    match (Kind::of(above.kind), above.fetch) {
+    match (Kind::from(above.kind), above.fetch) {
         (Kind::GlobalLimit | Kind::LocalLimit, Some(fetch)) => {
             fetch == 0 || u128::from(above.skip) + u128::from(fetch) <= u128::from(hint)
         }

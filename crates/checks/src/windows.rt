@@ -35,7 +35,7 @@ fn looks_ahead(exprs: &[WindowExpr]) -> bool
 fn is_refused<O: OperatorSet>(set: &O, below: u128, cell: &Cell) -> bool
     ensures { result ≡ window_refused (O.OperatorSet.answers set.now) below cell.now }
 {
-    if !matches!(Kind::of(cell.kind), Kind::BoundedWindowAgg) {
+    if !matches!(Kind::from(cell.kind), Kind::BoundedWindowAgg) {
         return false;
     }
     let exprs = set.window(cell.parameter);
@@ -51,7 +51,7 @@ fn below_after<O: OperatorSet>(set: &O, below: u128, cell: &Cell) -> u128
     if below > 0 {
         return below - 1 + cell.children as u128;
     }
-    let window = matches!(Kind::of(cell.kind), Kind::BoundedWindowAgg);
+    let window = matches!(Kind::from(cell.kind), Kind::BoundedWindowAgg);
     if window && looks_ahead(set.window(cell.parameter)) {
         return cell.children as u128;
     }

@@ -16,7 +16,7 @@ use crate::limit_pushdown_past_window::grow_cells;
 use crate::limited_distinct_aggregation::hint_cells;
 use checks::{Fact, accept, check_count, check_room};
 use operators::OperatorSet;
-use plan::{Cell, Fault, Stack, wipe};
+use plan::{Cell, Fault, Stack};
 
 /// Writes what the rule leaves of an accepted plan over the front of the work table.
 fn rewrite<O: OperatorSet>(
@@ -92,7 +92,7 @@ fn write_back(plan: &mut [Cell], work: &[Cell], answer: Result<usize, Fault>)
     ensures { plan.new ≡ laid blank (front_of work.now answer) plan.old }
 {
     if let Ok(count) = answer {
-        wipe(plan, Cell::BLANK);
+        plan.fill(Cell::BLANK);
         plan[0..count].copy_from_slice(&work[0..count]);
     }
 }
@@ -116,9 +116,9 @@ pub fn call<O: OperatorSet>(
 {
     let answer = compute(rule, set, plan, count, work, requirements, facts);
     write_back(plan, work, answer);
-    wipe(work, Cell::BLANK);
-    wipe(requirements, Pending::BLANK);
-    wipe(facts, Fact::BLANK);
+    work.fill(Cell::BLANK);
+    requirements.fill(Pending::BLANK);
+    facts.fill(Fact::BLANK);
     answer
 }
 

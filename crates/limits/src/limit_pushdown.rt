@@ -224,7 +224,7 @@ fn visit<O: OperatorSet>(
     let Some(fetch) = pending.fetch else {
         return skipped(pending, cell);
     };
-    match Kind::of(cell.kind) {
+    match Kind::from(cell.kind) {
         Kind::CoalescePartitions | Kind::SortPreservingMerge => gathered(pending, cell, fetch),
         _ if passes_limits(set, cell.kind, cell.parameter) => Visited {
             above: None,
@@ -268,7 +268,7 @@ fn visit_node<O: OperatorSet>(
 fn is_limit(kind: u8) -> bool
     ensures { result ≡ is_limit kind }
 {
-    matches!(Kind::of(kind), Kind::GlobalLimit | Kind::LocalLimit)
+    matches!(Kind::from(kind), Kind::GlobalLimit | Kind::LocalLimit)
 }
 
 /// What stands in a cell's place: a limit is taken out, any other node is visited.

@@ -103,7 +103,7 @@ impl Traversal {
         if cell.children > 1 {
             return Turn::Reset;
         }
-        match (self.state.phase, Kind::of(cell.kind)) {
+        match (self.state.phase, Kind::from(cell.kind)) {
             (Phase::FindOrGrow, Kind::GlobalLimit | Kind::LocalLimit | Kind::SortPreservingMerge) =>
                 Turn::Find,
             (_, Kind::BoundedWindowAgg) => Turn::Grow,

@@ -16,7 +16,7 @@ use rows::Handed;
 fn hint_sum(cell: &Cell, place: usize) -> Result<Option<u64>, Fault>
     ensures { result ≡ (if too_large (hint_sum cell.now) then refused_at Sum place else Ok (hint_sum cell.now)) }
 {
-    match (Kind::of(cell.kind), cell.mark, cell.fetch) {
+    match (Kind::from(cell.kind), cell.mark, cell.fetch) {
         (Kind::GlobalLimit | Kind::LocalLimit, false, Some(fetch)) => {
             Ok(Some(sum_at(place, cell.skip, fetch)?))
         }
@@ -28,7 +28,7 @@ fn hint_sum(cell: &Cell, place: usize) -> Result<Option<u64>, Fault>
 fn takes_hint<O: OperatorSet>(set: &O, above: Option<u32>, cell: &Cell) -> bool
     ensures { result ≡ takes_hint (O.OperatorSet.answers set.now) above cell.now }
 {
-    if !matches!(Kind::of(cell.kind), Kind::Aggregate) || !set.plain_distinct(cell.parameter) {
+    if !matches!(Kind::from(cell.kind), Kind::Aggregate) || !set.plain_distinct(cell.parameter) {
         return false;
     }
     match above {

@@ -10,7 +10,7 @@ use super::{Pending, RuleCall};
 use crate::calls::call;
 use checks::Fact;
 use operators::OperatorSet;
-use plan::{Cell, Fault, wipe};
+use plan::{Cell, Fault};
 
 /// The node count that a call passes on: the new one, or the one that it got.
 fn passed_on(answer: Result<usize, Fault>, count: usize) -> usize
@@ -46,9 +46,9 @@ pub fn run<O: OperatorSet>(
     ensures pages { PagesKept (O.OperatorSet.answers set.now) (take count plan.old) (take result plan.new) }
     ensures runs { RunsKeepPages (O.OperatorSet.answers set.now) }
 {
-    wipe(work, Cell::BLANK);
-    wipe(requirements, Pending::BLANK);
-    wipe(facts, Fact::BLANK);
+    work.fill(Cell::BLANK);
+    requirements.fill(Pending::BLANK);
+    facts.fill(Fact::BLANK);
     let mut nodes = count;
     for place in 0..calls.len() {
         let rule = calls[place].rule;

@@ -36,7 +36,7 @@ pub fn fits<O: OperatorSet>(set: &O, kind: u8, parameter: u32, children: u8) -> 
     if children > MAX_CHILDREN || parameter > MAX_PARAMETER {
         return false;
     }
-    match Kind::of(kind) {
+    match Kind::from(kind) {
         Kind::Empty | Kind::PlaceholderRow => children == 0 && parameter == 0,
         Kind::GlobalLimit | Kind::LocalLimit | Kind::CoalescePartitions => {
             children == 1 && parameter == 0
@@ -46,8 +46,8 @@ pub fn fits<O: OperatorSet>(set: &O, kind: u8, parameter: u32, children: u8) -> 
         | Kind::Sort
         | Kind::BoundedWindowAgg
         | Kind::Aggregate => children == 1 && set.fits(kind, parameter, children),
-        Kind::Reserved => false,
-        Kind::Operator => set.fits(kind, parameter, children),
+        Kind::Reserved(_) => false,
+        Kind::Operator(_) => set.fits(kind, parameter, children),
     }
 }
 
@@ -55,9 +55,9 @@ pub fn fits<O: OperatorSet>(set: &O, kind: u8, parameter: u32, children: u8) -> 
 pub fn passes_limits<O: OperatorSet>(set: &O, kind: u8, parameter: u32) -> bool
     ensures { result ≡ passes_limits (O.OperatorSet.answers set.now) kind parameter }
 {
-    match Kind::of(kind) {
+    match Kind::from(kind) {
         Kind::Projection | Kind::CoalescePartitions | Kind::SortPreservingMerge => true,
-        Kind::Operator => matches!(set.limits_pass(kind, parameter), LimitsPass::RowForRow),
+        Kind::Operator(_) => matches!(set.limits_pass(kind, parameter), LimitsPass::RowForRow),
         _ => false,
     }
 }
@@ -66,13 +66,13 @@ pub fn passes_limits<O: OperatorSet>(set: &O, kind: u8, parameter: u32) -> bool
 pub fn takes_fetch<O: OperatorSet>(set: &O, kind: u8, parameter: u32) -> bool
     ensures { result ≡ takes_fetch (O.OperatorSet.answers set.now) kind parameter }
 {
-    match Kind::of(kind) {
+    match Kind::from(kind) {
         Kind::GlobalLimit
         | Kind::LocalLimit
         | Kind::CoalescePartitions
         | Kind::SortPreservingMerge
         | Kind::Sort => true,
-        Kind::Operator => set.takes_fetch(kind, parameter),
+        Kind::Operator(_) => set.takes_fetch(kind, parameter),
         _ => false,
     }
 }
@@ -81,9 +81,9 @@ pub fn takes_fetch<O: OperatorSet>(set: &O, kind: u8, parameter: u32) -> bool
 pub fn takes_mark<O: OperatorSet>(set: &O, kind: u8, parameter: u32) -> bool
     ensures { result ≡ takes_mark (O.OperatorSet.answers set.now) kind parameter }
 {
-    match Kind::of(kind) {
+    match Kind::from(kind) {
         Kind::GlobalLimit | Kind::LocalLimit => true,
-        Kind::Operator => set.takes_mark(kind, parameter),
+        Kind::Operator(_) => set.takes_mark(kind, parameter),
         _ => false,
     }
 }
@@ -92,11 +92,11 @@ pub fn takes_mark<O: OperatorSet>(set: &O, kind: u8, parameter: u32) -> bool
 pub fn effect<O: OperatorSet>(set: &O, kind: u8, parameter: u32) -> CardinalityEffect
     ensures { result ≡ effect_of (O.OperatorSet.answers set.now) kind parameter }
 {
-    match Kind::of(kind) {
+    match Kind::from(kind) {
         Kind::Projection | Kind::CoalescePartitions | Kind::SortPreservingMerge => {
             CardinalityEffect::Equal
         }
-        Kind::Operator => set.effect(kind, parameter),
+        Kind::Operator(_) => set.effect(kind, parameter),
         _ => CardinalityEffect::Unknown,
     }
 }
@@ -105,7 +105,7 @@ fn has_one_partition(kind: u8) -> bool
     ensures { result ≡ one_partition kind }
 {
     matches!(
-        Kind::of(kind),
+        Kind::from(kind),
         Kind::Empty
             | Kind::PlaceholderRow
             | Kind::GlobalLimit
@@ -119,8 +119,8 @@ pub fn partitions<O: OperatorSet>(set: &O, kind: u8, parameter: u32, total: u64)
     ensures value { result ≡ partitions_of (O.OperatorSet.answers set.now) kind parameter total }
     ensures bound { result ≤ total + 2 ^ 32 }
 {
-    match Kind::of(kind) {
-        Kind::Operator => set.partitions(kind, parameter).of_total(total),
+    match Kind::from(kind) {
+        Kind::Operator(_) => set.partitions(kind, parameter).of_total(total),
         _ if has_one_partition(kind) => 1,
         _ => total,
     }
@@ -130,10 +130,10 @@ pub fn partitions<O: OperatorSet>(set: &O, kind: u8, parameter: u32, total: u64)
 pub fn known_empty<O: OperatorSet>(set: &O, kind: u8, parameter: u32, all: bool) -> bool
     ensures { result ≡ empty_of (O.OperatorSet.answers set.now) kind parameter all }
 {
-    match Kind::of(kind) {
+    match Kind::from(kind) {
         Kind::Empty => true,
         Kind::PlaceholderRow | Kind::Aggregate => false,
-        Kind::Operator => set.known_empty(kind, parameter).of_all(all),
+        Kind::Operator(_) => set.known_empty(kind, parameter).of_all(all),
         _ => all,
     }
 }

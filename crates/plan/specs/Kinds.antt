@@ -49,7 +49,22 @@ kind_of k =
     (cond (k == coalesce_partitions) CoalescePartitions
     (cond (k == sort_preserving_merge) SortPreservingMerge
     (cond (k == sort) Sort
-    (cond (k == bounded_window_agg) BoundedWindowAgg (cond (k == aggregate) Aggregate (cond (nat_lt k first_operator) Reserved Operator))))))))))
+    (cond (k == bounded_window_agg) BoundedWindowAgg (cond (k == aggregate) Aggregate (cond (nat_lt k first_operator) (Reserved k) (Operator k)))))))))))
+
+-- the number that stands for a kind
+abbrev pub number_of_kind : Kind → ℕ
+number_of_kind Empty = empty
+number_of_kind PlaceholderRow = placeholder_row
+number_of_kind GlobalLimit = global_limit
+number_of_kind LocalLimit = local_limit
+number_of_kind Projection = projection
+number_of_kind CoalescePartitions = coalesce_partitions
+number_of_kind SortPreservingMerge = sort_preserving_merge
+number_of_kind Sort = sort
+number_of_kind BoundedWindowAgg = bounded_window_agg
+number_of_kind Aggregate = aggregate
+number_of_kind (Reserved n) = n
+number_of_kind (Operator n) = n
 
 -- a kind is one of the two limits
 abbrev pub is_limit : ℕ → Bool

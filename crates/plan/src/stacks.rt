@@ -1,6 +1,6 @@
 // A stack in lent memory, for any entry. It grows from the end of the slice to its front, so that what it holds, top first, is
 // what stands in the slice from its top on. Nothing is asked of a caller: a full stack refuses an entry, an empty one has none.
-ghost use Rattle.std.specs.Prelude.{◌≡◌, ◌+◌, ◌-◌, ◌<◌, [], ◌∷◌, ◌++◌, length, replicate, if◌then◌else◌, nat_lt};
+ghost use Rattle.std.specs.Prelude.{◌≡◌, ◌+◌, ◌-◌, ◌<◌, [], ◌∷◌, ◌++◌, length, is_ok, Ok, Err, if◌then◌else◌, nat_lt};
 ghost use Rattle.std.specs.Option.{option_to_list};
 ghost use Rattle.plan.specs.Stacks.{content, room, at_depth};
 
@@ -45,21 +45,21 @@ impl<'a, T: Copy> Stack<'a, T> {
         self.top.min(self.items.len())
     }
 
-    /// One entry more; false where there is no room.
-    pub fn push(&mut self, entry: T) -> bool
+    /// One entry more; the entry comes back where there is no room.
+    pub fn push(&mut self, entry: T) -> Result<(), T>
         ensures loan { self.new.items.ghost_name ≡ self.old.items.ghost_name }
         ensures len { length self.new.items.now ≡ length self.old.items.now }
-        ensures value { result ≡ nat_lt 0 (room self.old) }
-        ensures content { content self.new ≡ (if result then entry ∷ content self.old else content self.old) }
+        ensures value { result ≡ (if nat_lt 0 (room self.old) then Ok tt else Err entry) }
+        ensures content { content self.new ≡ (if is_ok result then entry ∷ content self.old else content self.old) }
         ensures room { room self.new ≡ room self.old - 1 }
     {
         let top = self.room();
         if top == 0 {
-            return false;
+            return Err(entry);
         }
         self.items[top - 1] = entry;
         self.top = top - 1;
-        true
+        Ok(())
     }
 
     /// Takes the top entry off; none where there is none.
@@ -82,19 +82,6 @@ impl<'a, T: Copy> Stack<'a, T> {
     pub fn peek(&self, depth: usize) -> Option<T>
         ensures { result ≡ at_depth (content self.now) depth }
     {
-        let items = &*self.items;
-        if depth >= items.len().saturating_sub(self.top) {
-            return None;
-        }
-        Some(items[self.top + depth])
-    }
-}
-
-/// Makes every entry of lent memory blank.
-pub fn wipe<T: Copy>(items: &mut [T], blank: T)
-    ensures { items.new ≡ replicate (length items.old) blank }
-{
-    for item in items.iter_mut() {
-        *item = blank;
+        self.items.get(self.top..)?.get(depth).copied()
     }
 }

@@ -1,4 +1,9 @@
 // A cell is one node of a plan; a plan is a table of cells in prefix order, each node before its children's trees.
+ghost use Rattle.std.specs.Prelude.{◌≡◌};
+ghost use Rattle.plan.specs.Cells.{node};
+ghost use Rattle.plan.specs.Kinds.{number_of_kind};
+
+use super::Kind;
 
 /// The largest skip, fetch, hint or look-ahead.
 pub const MAX_NUMBER: u64 = (1 << 40) - 1;
@@ -44,4 +49,16 @@ impl Cell {
         hint: None,
         skip: 0,
     };
+
+    /// A node of this kind, unmarked and without a fetch, a hint or a skip.
+    pub fn new(kind: Kind, children: u8, parameter: u32) -> Cell
+        ensures { result ≡ node (number_of_kind kind) children parameter }
+    {
+        Cell {
+            kind: kind.into(),
+            children,
+            parameter,
+            ..Cell::BLANK
+        }
+    }
 }

@@ -3,4 +3,5 @@ mod Runs
 mod Spreads
 mod Steps
 mod Turns
+mod Wipes
 mod Writes

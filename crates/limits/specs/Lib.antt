@@ -1,5 +1,6 @@
 pub mod Sums
 pub mod Pending
 pub mod Calls
+pub mod Memory
 pub mod Laws
 pub mod Worked

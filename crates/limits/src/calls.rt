@@ -1,62 +1,48 @@
 // The one frame around the rules: count and room, the checks of the plan, the rule itself, the copy back, and blank memory after.
-ghost use Rattle.std.specs.Prelude.{◌≡◌, ◌*◌, ◌≤◌, [], length, replicate, IfOk};
+ghost use Rattle.std.specs.Prelude.{◌≡◌, ◌*◌, ◌<◌, ◌≤◌, length, IfOk};
 ghost use Rattle.plan.specs.Cells.{blank};
-ghost use Rattle.plan.specs.Stacks.{content};
+ghost use Rattle.plan.specs.Numbers.{max_nodes};
+ghost use Rattle.plan.specs.Refusals.{then};
 ghost use Rattle.plan.specs.Tables.{laid};
-ghost use Rattle.checks.specs.Accepts.{Accepted};
-ghost use Rattle.checks.specs.Facts.{blank_fact, every_fact};
-ghost use Rattle.limits.specs.Pending.{blank_pending};
-ghost use Rattle.limits.specs.Calls.{rule_answer, lent_of, rooms_answer, call_answer, front_of};
+ghost use Rattle.checks.specs.Accepts.{plan_answer};
+ghost use Rattle.limits.specs.Calls.{rule_answer, call_answer, front_of};
+ghost use Rattle.limits.specs.Memory.{lent_by, SameLoan, Wiped};
 ghost use Rattle.limits.specs.Laws.{Called};
 ghost use Rattle.limits.specs.declared.rules.Rule.TheVariants.{Sink, Grow, Hint};
 
-use super::{Pending, Rule};
+use super::{Memory, Pending, Rule};
 use crate::limit_pushdown::sink_cells;
 use crate::limit_pushdown_past_window::grow_cells;
 use crate::limited_distinct_aggregation::hint_cells;
-use checks::{Fact, accept, check_count, check_room};
+use checks::{Fact, accept, check_count};
 use operators::OperatorSet;
 use plan::{Cell, Fault, Stack};
 
-/// Writes what the rule leaves of an accepted plan over the front of the work table.
+/// Checks a plan, and writes what the rule leaves of it over the front of the work table.
 fn rewrite<O: OperatorSet>(
     rule: Rule,
     set: &O,
     cells: &[Cell],
     work: &mut [Cell],
-    pending: &mut Stack<Pending>,
-    known: &mut Stack<Fact>,
+    requirements: &mut [Pending],
+    facts: &mut [Fact],
 ) -> Result<usize, Fault>
-    requires accepted { Accepted (O.OperatorSet.answers set.now) cells.now }
+    requires some { 0 < length cells.now }
+    requires few { length cells.now ≤ max_nodes }
     requires work { 2 * length cells.now ≤ length work.old }
-    requires pending { content pending.old ≡ [] }
-    requires room { length cells.now ≤ length pending.old.items.now }
-    requires facts { content known.old ≡ every_fact (O.OperatorSet.answers set.now) cells.now }
-    ensures answer { front_of work.new result ≡ rule_answer (O.OperatorSet.answers set.now) rule cells.now }
-    ensures few { IfOk result (λ n. n ≤ 2 * length cells.now) }
+    requires requirements { length cells.now ≤ length requirements.old }
+    requires facts { length cells.now ≤ length facts.old }
+    ensures answer { front_of work.new result ≡ then (plan_answer (O.OperatorSet.answers set.now) cells.now) (λ _. rule_answer (O.OperatorSet.answers set.now) rule cells.now) }
+    ensures twice { IfOk result (λ n. n ≤ 2 * length cells.now) }
 {
+    let mut pending = Stack::new(requirements);
+    let mut known = Stack::new(facts);
+    accept(set, cells, cells.len(), &mut known)?;
     match rule {
-        Rule::Sink => sink_cells(set, cells, work, pending, known),
+        Rule::Sink => sink_cells(set, cells, work, &mut pending, &mut known),
         Rule::Grow => grow_cells(set, cells, work),
         Rule::Hint => hint_cells(set, cells, work),
     }
-}
-
-/// Twice the count in plan and work table, the count in each stack.
-fn check_rooms(
-    table: usize,
-    work: usize,
-    requirements: usize,
-    facts: usize,
-    count: usize,
-) -> Result<(), Fault>
-    requires { count ≤ 4096 }
-    ensures { result ≡ rooms_answer table count (lent_of work requirements facts) }
-{
-    check_room(table, 2 * count)?;
-    check_room(work, 2 * count)?;
-    check_room(requirements, count)?;
-    check_room(facts, count)
 }
 
 /// The checks and the rule, up to the work table; what it leaves in the memory is the caller's to blank.
@@ -65,25 +51,22 @@ fn compute<O: OperatorSet>(
     set: &O,
     plan: &[Cell],
     count: usize,
-    work: &mut [Cell],
-    requirements: &mut [Pending],
-    facts: &mut [Fact],
+    memory: &mut Memory<'_>,
 ) -> Result<usize, Fault>
-    ensures answer { front_of work.new result ≡ call_answer (O.OperatorSet.answers set.now) rule plan.now count (lent_of (length work.old) (length requirements.old) (length facts.old)) }
-    ensures within { IfOk result (λ n. (n ≤ length work.old) × (n ≤ length plan.now)) }
+    ensures loan { SameLoan memory.old memory.new }
+    ensures answer { front_of memory.new.work.now result ≡ call_answer (O.OperatorSet.answers set.now) rule plan.now count (lent_by memory.old) }
+    ensures within { IfOk result (λ n. (n ≤ length memory.old.work.now) × (n ≤ length plan.now)) }
 {
     check_count(plan.len(), count)?;
-    check_rooms(
-        plan.len(),
-        work.len(),
-        requirements.len(),
-        facts.len(),
-        count,
-    )?;
-    let mut pending = Stack::new(requirements);
-    let mut known = Stack::new(facts);
-    accept(set, plan, count, &mut known)?;
-    rewrite(rule, set, &plan[0..count], work, &mut pending, &mut known)
+    memory.check_rooms(plan.len(), count)?;
+    rewrite(
+        rule,
+        set,
+        &plan[0..count],
+        memory.work,
+        memory.requirements,
+        memory.facts,
+    )
 }
 
 /// Granted, the new plan goes over the old one, with blank cells behind it; refused, the plan stays.
@@ -105,20 +88,14 @@ pub fn call<O: OperatorSet>(
     set: &O,
     plan: &mut [Cell],
     count: usize,
-    work: &mut [Cell],
-    requirements: &mut [Pending],
-    facts: &mut [Fact],
+    memory: &mut Memory<'_>,
 ) -> Result<usize, Fault>
-    ensures called { Called (O.OperatorSet.answers set.now) rule (lent_of (length work.old) (length requirements.old) (length facts.old)) count plan.old plan.new result }
-    ensures work { work.new ≡ replicate (length work.old) blank }
-    ensures requirements { requirements.new ≡ replicate (length requirements.old) blank_pending }
-    ensures facts { facts.new ≡ replicate (length facts.old) blank_fact }
+    ensures called { Called (O.OperatorSet.answers set.now) rule (lent_by memory.old) count plan.old plan.new result }
+    ensures wiped { Wiped memory.old memory.new }
 {
-    let answer = compute(rule, set, plan, count, work, requirements, facts);
-    write_back(plan, work, answer);
-    work.fill(Cell::BLANK);
-    requirements.fill(Pending::BLANK);
-    facts.fill(Fact::BLANK);
+    let answer = compute(rule, set, plan, count, memory);
+    write_back(plan, memory.work, answer);
+    memory.clear();
     answer
 }
 
@@ -131,16 +108,12 @@ pub fn sink<O: OperatorSet>(
     set: &O,
     plan: &mut [Cell],
     count: usize,
-    work: &mut [Cell],
-    requirements: &mut [Pending],
-    facts: &mut [Fact],
+    memory: &mut Memory<'_>,
 ) -> Result<usize, Fault>
-    ensures called { Called (O.OperatorSet.answers set.now) Sink (lent_of (length work.old) (length requirements.old) (length facts.old)) count plan.old plan.new result }
-    ensures work { work.new ≡ replicate (length work.old) blank }
-    ensures requirements { requirements.new ≡ replicate (length requirements.old) blank_pending }
-    ensures facts { facts.new ≡ replicate (length facts.old) blank_fact }
+    ensures called { Called (O.OperatorSet.answers set.now) Sink (lent_by memory.old) count plan.old plan.new result }
+    ensures wiped { Wiped memory.old memory.new }
 {
-    call(Rule::Sink, set, plan, count, work, requirements, facts)
+    call(Rule::Sink, set, plan, count, memory)
 }
 
 /// A limit goes past windows, grown by what they look ahead, to a sort or merge below them.
@@ -152,16 +125,12 @@ pub fn grow<O: OperatorSet>(
     set: &O,
     plan: &mut [Cell],
     count: usize,
-    work: &mut [Cell],
-    requirements: &mut [Pending],
-    facts: &mut [Fact],
+    memory: &mut Memory<'_>,
 ) -> Result<usize, Fault>
-    ensures called { Called (O.OperatorSet.answers set.now) Grow (lent_of (length work.old) (length requirements.old) (length facts.old)) count plan.old plan.new result }
-    ensures work { work.new ≡ replicate (length work.old) blank }
-    ensures requirements { requirements.new ≡ replicate (length requirements.old) blank_pending }
-    ensures facts { facts.new ≡ replicate (length facts.old) blank_fact }
+    ensures called { Called (O.OperatorSet.answers set.now) Grow (lent_by memory.old) count plan.old plan.new result }
+    ensures wiped { Wiped memory.old memory.new }
 {
-    call(Rule::Grow, set, plan, count, work, requirements, facts)
+    call(Rule::Grow, set, plan, count, memory)
 }
 
 /// A limit becomes a hint on the distinct aggregates right below it.
@@ -173,14 +142,10 @@ pub fn hint<O: OperatorSet>(
     set: &O,
     plan: &mut [Cell],
     count: usize,
-    work: &mut [Cell],
-    requirements: &mut [Pending],
-    facts: &mut [Fact],
+    memory: &mut Memory<'_>,
 ) -> Result<usize, Fault>
-    ensures called { Called (O.OperatorSet.answers set.now) Hint (lent_of (length work.old) (length requirements.old) (length facts.old)) count plan.old plan.new result }
-    ensures work { work.new ≡ replicate (length work.old) blank }
-    ensures requirements { requirements.new ≡ replicate (length requirements.old) blank_pending }
-    ensures facts { facts.new ≡ replicate (length facts.old) blank_fact }
+    ensures called { Called (O.OperatorSet.answers set.now) Hint (lent_by memory.old) count plan.old plan.new result }
+    ensures wiped { Wiped memory.old memory.new }
 {
-    call(Rule::Hint, set, plan, count, work, requirements, facts)
+    call(Rule::Hint, set, plan, count, memory)
 }

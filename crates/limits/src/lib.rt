@@ -5,6 +5,7 @@ mod calls;
 mod limit_pushdown;
 mod limit_pushdown_past_window;
 mod limited_distinct_aggregation;
+mod memory;
 mod pending;
 mod rules;
 mod running;
@@ -12,6 +13,7 @@ mod sums;
 mod worked;
 
 pub use calls::{call, grow, hint, sink};
+pub use memory::Memory;
 pub use pending::Pending;
 pub use rules::{Rule, RuleCall};
 pub use running::run;

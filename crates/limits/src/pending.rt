@@ -32,7 +32,7 @@ pub(super) fn hand_down(pending: &mut Stack<Pending>, requirement: GlobalRequire
     ensures live { Live (content pending.new) }
 {
     if children > 0 {
-        pending.push(Pending {
+        let _ = pending.push(Pending {
             requirement,
             subtrees: children,
         });

@@ -1,14 +1,10 @@
 // A run: calls of rules one after another, on one plan.
-ghost use Rattle.std.specs.Prelude.{◌≡◌, length, take, replicate};
-ghost use Rattle.plan.specs.Cells.{blank};
-ghost use Rattle.checks.specs.Facts.{blank_fact};
-ghost use Rattle.limits.specs.Pending.{blank_pending};
-ghost use Rattle.limits.specs.Calls.{lent_of};
+ghost use Rattle.std.specs.Prelude.{◌≡◌, take};
+ghost use Rattle.limits.specs.Memory.{lent_by, Wiped};
 ghost use Rattle.limits.specs.Laws.{count_after, PagesKept, ran, RunsKeepPages, asked, answered_calls};
 
-use super::{Pending, RuleCall};
+use super::{Memory, RuleCall};
 use crate::calls::call;
-use checks::Fact;
 use operators::OperatorSet;
 use plan::{Cell, Fault};
 
@@ -33,26 +29,20 @@ pub fn run<O: OperatorSet>(
     calls: &mut [RuleCall],
     plan: &mut [Cell],
     count: usize,
-    work: &mut [Cell],
-    requirements: &mut [Pending],
-    facts: &mut [Fact],
+    memory: &mut Memory<'_>,
 ) -> usize
-    ensures answers { calls.new ≡ answered_calls calls.old (ran (O.OperatorSet.answers set.now) (asked (lent_of (length work.old) (length requirements.old) (length facts.old)) calls.old) plan.old count).answers }
-    ensures plan { plan.new ≡ (ran (O.OperatorSet.answers set.now) (asked (lent_of (length work.old) (length requirements.old) (length facts.old)) calls.old) plan.old count).table }
-    ensures count { result ≡ (ran (O.OperatorSet.answers set.now) (asked (lent_of (length work.old) (length requirements.old) (length facts.old)) calls.old) plan.old count).count }
-    ensures work { work.new ≡ replicate (length work.old) blank }
-    ensures requirements { requirements.new ≡ replicate (length requirements.old) blank_pending }
-    ensures facts { facts.new ≡ replicate (length facts.old) blank_fact }
+    ensures answers { calls.new ≡ answered_calls calls.old (ran (O.OperatorSet.answers set.now) (asked (lent_by memory.old) calls.old) plan.old count).answers }
+    ensures plan { plan.new ≡ (ran (O.OperatorSet.answers set.now) (asked (lent_by memory.old) calls.old) plan.old count).table }
+    ensures count { result ≡ (ran (O.OperatorSet.answers set.now) (asked (lent_by memory.old) calls.old) plan.old count).count }
+    ensures wiped { Wiped memory.old memory.new }
     ensures pages { PagesKept (O.OperatorSet.answers set.now) (take count plan.old) (take result plan.new) }
     ensures runs { RunsKeepPages (O.OperatorSet.answers set.now) }
 {
-    work.fill(Cell::BLANK);
-    requirements.fill(Pending::BLANK);
-    facts.fill(Fact::BLANK);
+    memory.clear();
     let mut nodes = count;
     for place in 0..calls.len() {
         let rule = calls[place].rule;
-        let answer = call(rule, set, plan, nodes, work, requirements, facts);
+        let answer = call(rule, set, plan, nodes, memory);
         calls[place] = RuleCall {
             rule,
             answer: Some(answer),

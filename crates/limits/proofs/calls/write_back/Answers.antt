@@ -1,5 +1,6 @@
 use Rattle.std.proofs.Common.{◌≡◌, ℕ, ◌-◌, ◌≤◌, List, ◌++◌, length, take, drop, replicate, IfOk, Ok, Result, sym, ap, ◌∙◌, subst, arith}
 use borrow.Rule.Slice.PartMut.{post_of, Post-is}
+use Rattle.std.proofs.lemmas.Grind.{common_steps}
 use Rattle.std.proofs.lemmas.List.{length-take-le, drop-replicate}
 use Rattle.plan.specs.declared.cells.Cell.{Cell}
 use Rattle.plan.specs.declared.refusals.Fault.{Fault}
@@ -22,4 +23,5 @@ returns-in-Ok c =
     let work = c.args.work.now in
     let within : (c.in-Ok.count ≤ length work) × (c.in-Ok.count ≤ length c.args.plan.now) =
     subst (λ (r : Result ℕ Fault). IfOk r (λ n. (n ≤ length work) × (n ≤ length c.args.plan.now))) c.in-Ok.is c.requires in
-    laid_back c.args.plan.now work c.copy_from_slice.new.self c.wipe.new.items c.in-Ok.count c.args.answer within.0 c.in-Ok.is c.copy_from_slice.ensures.after c.wipe.ensures
+    let blanked : c.fill.new.self ≡ replicate (length c.args.plan.now) blank = grind (arith, common_steps) in
+    laid_back c.args.plan.now work c.copy_from_slice.new.self c.fill.new.self c.in-Ok.count c.args.answer within.0 c.in-Ok.is c.copy_from_slice.ensures.after blanked

@@ -1,8 +1,8 @@
 -- Bytes as pairs of hexadecimal digits. Assumes nothing.
 use Rattle.std.specs.Prelude.{ℕ, ◌+◌, ◌-◌, ◌*◌, ◌/◌, ◌%◌, Bool, cond, ◌&&◌, ◌||◌, List, [], ◌∷◌, ◌++◌, Some, None, Ok, Err, Option, Result, ◌==◌, nat_le, nat_lt}
-use Rattle.text.specs.declared.problems.Problem.{Problem}
 use Rattle.text.specs.declared.problems.Problem.TheVariants.{ExpectedHexDigit}
 use Rattle.text.specs.declared.problems.Slip.{Slip}
+use Rattle.text.specs.Problems.{slip_at}
 
 -- the value of a digit 0 to 9, a to f or A to F
 abbrev pub digit_of : ℕ → Option ℕ
@@ -21,10 +21,6 @@ hex_text (b ∷ bs) = digit_text (b / 16) ∷ digit_text (b % 16) ∷ hex_text b
 -- a space or a tab
 abbrev pub is_blank : ℕ → Bool
 is_blank b = b == 32 || b == 9
-
--- a problem at a place, counted from 0
-abbrev pub slip_at : Problem → ℕ → Slip
-slip_at p place = record { problem = p; column = place + 1 }
 
 -- a digit is due at the place
 abbrev pub no_digit : ℕ → Result (List ℕ) Slip

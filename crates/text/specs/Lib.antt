@@ -1,2 +1,3 @@
+pub mod Problems
 pub mod Hex
 pub mod Letters

@@ -1,5 +1,6 @@
 -- A set that holds declarations shows the rules, if none of them is refused. Assumes nothing.
 use Rattle.std.proofs.Common.{◌≡◌, ℕ, ◌+◌, ◌≤◌, Bool, true, false, cond, eqb, ltb, leb, List, [], ◌∷◌, ◌++◌, length, is_ok, Some, None, Option, sym, refl, ap, ◌∙◌, subst, arith}
+use Rattle.std.specs.Option.{option_map_or}
 use Rattle.std.proofs.lemmas.Bool.{false≢true, eqb-true, leb-true, le-ltb}
 use Rattle.std.proofs.lemmas.Bool.Decides.{nat_tests}
 use Rattle.plan.specs.Kinds.{first_operator}
@@ -14,7 +15,7 @@ use Rattle.operators.specs.declared.declarations.Declaration.{Declaration}
 use Rattle.operators.specs.Questions.{fits_of, passes, passes_limits, empty_of}
 use Rattle.operators.specs.Rules.{Passing}
 use Rattle.operators.specs.Stored.{Shows}
-use Rattle.operators.specs.Declarations.{max_declarations, look_up, is_row_for_row, is_refused, declared_from, declared_answer, declared_answers, declared_source, is_source, answered, fits_shape, passes_shape, partitions_shape}
+use Rattle.operators.specs.Declarations.{max_declarations, look_up, is_row_for_row, is_refused, declared_from, declared_answer, declared_answers, declared_source, is_source, fits_shape, passes_shape, partitions_shape}
 use Rattle.operators.proofs.Showing.{shows}
 
 -- a declaration that is not refused is of a kind from 16 on, and takes no fetch where it is row for row
@@ -58,46 +59,46 @@ module _ (ds : List Declaration) (ok : is_ok (declared_answer ds) ≡ true) (k p
       go (Some d) e good = some d e good
 
   row_shape : (s : Shape) → passes (passes_shape s) ≡ true → s ≡ RowForRow
-  row_shape Source e = absurd (false≢true e)
+  row_shape (Source n) e = absurd (false≢true e)
   row_shape RowForRow e = refl
   row_shape EachPartition e = absurd (false≢true e)
-  row_shape Gathering e = absurd (false≢true e)
+  row_shape (Gathering n) e = absurd (false≢true e)
 
-  source_shape : (s : Shape) → is_source s ≡ true → s ≡ Source
-  source_shape Source e = refl
+  source_shape : (s : Shape) → is_source s ≡ true → (n : ℕ) × (s ≡ Source n)
+  source_shape (Source n) e = (n, refl)
   source_shape RowForRow e = absurd (false≢true e)
   source_shape EachPartition e = absurd (false≢true e)
-  source_shape Gathering e = absurd (false≢true e)
+  source_shape (Gathering n) e = absurd (false≢true e)
 
   declared_passing : leb first_operator k ≡ true → (declared_answers ds).limits_pass k p ≡ Passes → Passing (declared_answers ds) k p
   declared_passing high e = found (Passing (declared_answers ds) k p)
       (λ d is good.
-      let shape : d.shape ≡ RowForRow = row_shape d.shape (ap (λ o. passes (answered No (λ d. passes_shape d.shape) o)) (sym is) ∙ ap passes e) in
-      let childless : answered false (λ d. fits_shape d.shape 0) (look_up ds k) ≡ false = ap (answered false (λ d. fits_shape d.shape 0)) is ∙ ap (λ s. fits_shape s 0) shape in
+      let shape : d.shape ≡ RowForRow = row_shape d.shape (ap (λ o. passes (option_map_or (λ d. passes_shape d.shape) o No)) (sym is) ∙ ap passes e) in
+      let childless : option_map_or (λ d. fits_shape d.shape 0) (look_up ds k) false ≡ false = ap (λ o. option_map_or (λ d. fits_shape d.shape 0) o false) is ∙ ap (λ s. fits_shape s 0) shape in
       record {
         has_children = grind (arith, nat_tests);
-        no_fetch = ap (answered false (λ d. d.fetch)) is ∙ good.no_fetch (ap is_row_for_row shape);
-        adds_up = ap (answered Sum (λ d. partitions_shape d.shape d.number)) is ∙ ap (λ s. partitions_shape s d.number) shape;
+        no_fetch = ap (λ o. option_map_or (λ d. d.fetch) o false) is ∙ good.no_fetch (ap is_row_for_row shape);
+        adds_up = ap (λ o. option_map_or (λ d. partitions_shape d.shape) o Sum) is ∙ ap partitions_shape shape;
       })
-      (λ is. absurd (false≢true (ap (λ o. passes (answered No (λ d. passes_shape d.shape) o)) (sym is) ∙ ap passes e)))
+      (λ is. absurd (false≢true (ap (λ o. passes (option_map_or (λ d. passes_shape d.shape) o No)) (sym is) ∙ ap passes e)))
 
   -- a source is of a kind from 16 on, and declared so
-  at_source : (P : Type 0) → ((d : Declaration) → look_up ds k ≡ Some d → first_operator ≤ k → d.shape ≡ Source → P) → declared_source ds k ≡ true → P
+  at_source : (P : Type 0) → ((d : Declaration) → look_up ds k ≡ Some d → first_operator ≤ k → (n : ℕ) × (d.shape ≡ Source n) → P) → declared_source ds k ≡ true → P
   at_source P some e = found P
-      (λ d is good. some d is good.high (source_shape d.shape (ap (answered false (λ d. is_source d.shape)) (sym is) ∙ e)))
-      (λ is. absurd (false≢true (ap (answered false (λ d. is_source d.shape)) (sym is) ∙ e)))
+      (λ d is good. some d is good.high (source_shape d.shape (ap (λ o. option_map_or (λ d. is_source d.shape) o false) (sym is) ∙ e)))
+      (λ is. absurd (false≢true (ap (λ o. option_map_or (λ d. is_source d.shape) o false) (sym is) ∙ e)))
 
   alone : (n : ℕ) → declared_source ds k ≡ true → fits_of (declared_answers ds) k p n ≡ true → n ≡ 0
   alone n e fit = at_source (n ≡ 0)
       (λ d is high shape.
-      let childless : answered false (λ d. fits_shape d.shape n) (look_up ds k) ≡ eqb n 0 = ap (answered false (λ d. fits_shape d.shape n)) is ∙ ap (λ s. fits_shape s n) shape in
+      let childless : option_map_or (λ d. fits_shape d.shape n) (look_up ds k) false ≡ eqb n 0 = ap (λ o. option_map_or (λ d. fits_shape d.shape n) o false) is ∙ ap (λ s. fits_shape s n) shape.1 in
       grind (arith, nat_tests))
       e
 
   stops : declared_source ds k ≡ true → passes_limits (declared_answers ds) k p ≡ false
   stops e = at_source (passes_limits (declared_answers ds) k p ≡ false)
       (λ d is high shape.
-      let no : passes (answered No (λ d. passes_shape d.shape) (look_up ds k)) ≡ false = ap (λ o. passes (answered No (λ d. passes_shape d.shape) o)) is ∙ ap (λ s. passes (passes_shape s)) shape in
+      let no : passes (option_map_or (λ d. passes_shape d.shape) (look_up ds k) No) ≡ false = ap (λ o. passes (option_map_or (λ d. passes_shape d.shape) o No)) is ∙ ap (λ s. passes (passes_shape s)) shape.1 in
       grind (arith, nat_tests))
       e
 

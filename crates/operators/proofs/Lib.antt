@@ -1,5 +1,4 @@
 mod Declarable
-mod Entries
 pub mod Exprs
 pub mod Lists
 mod Showing

@@ -1,7 +1,7 @@
 // What an operator set can answer. Names are those of DataFusion where it has one.
 
 /// Whether limits above an operator may go below it.
-#[derive(Clone, Copy)]
+#[derive(Clone, Copy, PartialEq, Eq, Debug)]
 pub enum LimitsPass {
     No,
     /// Each row is made from the row at the same place.
@@ -9,7 +9,7 @@ pub enum LimitsPass {
 }
 
 /// How many rows an operator gives, held against how many it reads.
-#[derive(Clone, Copy)]
+#[derive(Clone, Copy, PartialEq, Eq, Debug)]
 pub enum CardinalityEffect {
     Unknown,
     LowerEqual,
@@ -18,7 +18,7 @@ pub enum CardinalityEffect {
 }
 
 /// How many partitions an operator has.
-#[derive(Clone, Copy)]
+#[derive(Clone, Copy, PartialEq, Eq, Debug)]
 pub enum PartitionCount {
     /// As many as its children together.
     Sum,
@@ -26,7 +26,7 @@ pub enum PartitionCount {
 }
 
 /// When an operator is known to give no rows.
-#[derive(Clone, Copy)]
+#[derive(Clone, Copy, PartialEq, Eq, Debug)]
 pub enum KnownEmpty {
     Never,
     Always,
@@ -35,7 +35,7 @@ pub enum KnownEmpty {
 }
 
 /// Which rows a window's expression needs beside those of its frame.
-#[derive(Clone, Copy)]
+#[derive(Clone, Copy, PartialEq, Eq, Debug)]
 pub enum LimitEffect {
     None,
     Unknown,
@@ -46,14 +46,14 @@ pub enum LimitEffect {
 }
 
 /// What a window's frame counts in.
-#[derive(Clone, Copy)]
+#[derive(Clone, Copy, PartialEq, Eq, Debug)]
 pub enum FrameUnits {
     Rows,
     Other,
 }
 
 /// Where a window's frame ends.
-#[derive(Clone, Copy)]
+#[derive(Clone, Copy, PartialEq, Eq, Debug)]
 pub enum FrameBound {
     Preceding,
     CurrentRow,
@@ -62,7 +62,7 @@ pub enum FrameBound {
 }
 
 /// One expression of a window.
-#[derive(Clone, Copy)]
+#[derive(Clone, Copy, PartialEq, Eq, Debug)]
 pub struct WindowExpr {
     pub effect: LimitEffect,
     pub units: FrameUnits,

@@ -7,9 +7,10 @@ use super::{
     CardinalityEffect, FrameBound, FrameUnits, KnownEmpty, LimitEffect, LimitsPass, OperatorSet,
     PartitionCount, WindowExpr,
 };
+use plan::Kind;
 
 /// The operators of the hoard catalogue.
-#[derive(Clone, Copy)]
+#[derive(Clone, Copy, PartialEq, Eq, Debug)]
 pub struct CatalogueSet;
 
 impl CatalogueSet {
@@ -29,7 +30,7 @@ impl CatalogueSet {
     {}
 
     /// The windows by their parameters.
-    const WINDOWS: [&'static [WindowExpr]; 6] = [
+    const WINDOWS: &'static [&'static [WindowExpr]] = &[
         &[WindowExpr {
             effect: LimitEffect::None,
             units: FrameUnits::Rows,
@@ -74,61 +75,59 @@ impl OperatorSet for CatalogueSet {
     ghost answers = { λ _. catalogue };
 
     fn fits(&self, kind: u8, parameter: u32, children: u8) -> bool {
-        match kind {
-            8 => parameter < 6,
-            0..=15 => true,
-            CatalogueSet::SCAN => children == 0 && parameter >= 1 && parameter <= 64,
-            CatalogueSet::FILTER => children == 1,
-            CatalogueSet::UNION => children >= 1 && children <= 63,
-            CatalogueSet::REPARTITION => children == 1 && parameter >= 1 && parameter <= 64,
-            _ => false,
+        match Kind::from(kind) {
+            Kind::BoundedWindowAgg => (parameter as usize) < Self::WINDOWS.len(),
+            Kind::Operator(Self::SCAN) => children == 0 && (1..=64).contains(&parameter),
+            Kind::Operator(Self::FILTER) => children == 1,
+            Kind::Operator(Self::UNION) => (1..=63).contains(&children),
+            Kind::Operator(Self::REPARTITION) => children == 1 && (1..=64).contains(&parameter),
+            Kind::Operator(_) => false,
+            _ => true,
         }
     }
 
     fn limits_pass(&self, kind: u8, _parameter: u32) -> LimitsPass {
         match kind {
-            CatalogueSet::UNION => LimitsPass::RowForRow,
+            Self::UNION => LimitsPass::RowForRow,
             _ => LimitsPass::No,
         }
     }
 
     fn takes_fetch(&self, kind: u8, _parameter: u32) -> bool {
-        kind == CatalogueSet::SCAN || kind == CatalogueSet::FILTER
+        matches!(kind, Self::SCAN | Self::FILTER)
     }
 
     fn takes_mark(&self, kind: u8, _parameter: u32) -> bool {
-        kind == CatalogueSet::SCAN
+        kind == Self::SCAN
     }
 
     fn effect(&self, kind: u8, _parameter: u32) -> CardinalityEffect {
         match kind {
-            CatalogueSet::FILTER => CardinalityEffect::LowerEqual,
-            CatalogueSet::UNION | CatalogueSet::REPARTITION => CardinalityEffect::Equal,
+            Self::FILTER => CardinalityEffect::LowerEqual,
+            Self::UNION | Self::REPARTITION => CardinalityEffect::Equal,
             _ => CardinalityEffect::Unknown,
         }
     }
 
     fn partitions(&self, kind: u8, parameter: u32) -> PartitionCount {
         match kind {
-            CatalogueSet::SCAN | CatalogueSet::REPARTITION => PartitionCount::Fixed(parameter),
+            Self::SCAN | Self::REPARTITION => PartitionCount::Fixed(parameter),
             _ => PartitionCount::Sum,
         }
     }
 
     fn known_empty(&self, kind: u8, _parameter: u32) -> KnownEmpty {
         match kind {
-            CatalogueSet::FILTER | CatalogueSet::UNION | CatalogueSet::REPARTITION => {
-                KnownEmpty::IfAllChildren
-            }
+            Self::FILTER | Self::UNION | Self::REPARTITION => { KnownEmpty::IfAllChildren }
             _ => KnownEmpty::Never,
         }
     }
 
     fn window(&self, parameter: u32) -> &[WindowExpr] {
-        if parameter >= 6 {
+        let Some(window) = Self::WINDOWS.get(parameter as usize) else {
             return WindowExpr::UNKNOWN;
-        }
-        Self::WINDOWS[parameter as usize]
+        };
+        window
     }
 
     fn group(&self, parameter: u32) -> u32 {

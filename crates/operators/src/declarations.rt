@@ -2,20 +2,20 @@
 use super::CardinalityEffect;
 
 /// How a declared operator stands to its children.
-#[derive(Clone, Copy)]
+#[derive(Clone, Copy, PartialEq, Eq, Debug)]
 pub enum Shape {
-    /// No children, and as many partitions as its number says.
-    Source,
+    /// No children.
+    Source { partitions: u32 },
     /// 1 to 63 children; limits pass.
     RowForRow,
     /// One child, whose partitions it keeps apart.
     EachPartition,
-    /// 1 to 63 children, and as many partitions as its number says.
-    Gathering,
+    /// 1 to 63 children.
+    Gathering { partitions: u32 },
 }
 
 /// What is declared of one kind.
-#[derive(Clone, Copy)]
+#[derive(Clone, Copy, PartialEq, Eq, Debug)]
 pub struct Declaration {
     pub kind: u8,
     pub shape: Shape,
@@ -24,6 +24,4 @@ pub struct Declaration {
     /// Whether it takes a mark.
     pub mark: bool,
     pub effect: CardinalityEffect,
-    /// The number of partitions of a source or a gathering.
-    pub number: u32,
 }

@@ -7,7 +7,7 @@ use super::{
     CardinalityEffect, Declaration, DeclaredSet, KnownEmpty, LimitsPass, OperatorSet,
     PartitionCount, Shape, WindowExpr,
 };
-use plan::{Fault, Refusal};
+use plan::{Fault, Kind, Refusal};
 
 /// As many as there are kinds from 16 on.
 const MAX_DECLARATIONS: usize = 240;
@@ -16,12 +16,7 @@ const MAX_DECLARATIONS: usize = 240;
 fn find(list: &[Declaration], kind: u8) -> Option<Declaration>
     ensures { result ≡ look_up list.now kind }
 {
-    for d in list {
-        if d.kind == kind {
-            return Some(*d);
-        }
-    }
-    None
+    list.iter().copied().find(|d| d.kind == kind)
 }
 
 impl Shape {
@@ -29,9 +24,9 @@ impl Shape {
         ensures { result ≡ fits_shape self children }
     {
         match self {
-            Shape::Source => children == 0,
+            Shape::Source { .. } => children == 0,
             Shape::EachPartition => children == 1,
-            Shape::RowForRow | Shape::Gathering => children >= 1 && children <= 63,
+            Shape::RowForRow | Shape::Gathering { .. } => (1..=63).contains(&children),
         }
     }
 
@@ -40,15 +35,17 @@ impl Shape {
     {
         match self {
             Shape::RowForRow => LimitsPass::RowForRow,
-            Shape::Source | Shape::EachPartition | Shape::Gathering => LimitsPass::No,
+            Shape::Source { .. } | Shape::EachPartition | Shape::Gathering { .. } => LimitsPass::No,
         }
     }
 
-    fn partitions(self, number: u32) -> PartitionCount
-        ensures { result ≡ partitions_shape self number }
+    fn partitions(self) -> PartitionCount
+        ensures { result ≡ partitions_shape self }
     {
         match self {
-            Shape::Source | Shape::Gathering => PartitionCount::Fixed(number),
+            Shape::Source { partitions } | Shape::Gathering { partitions } => {
+                PartitionCount::Fixed(partitions)
+            }
             Shape::RowForRow | Shape::EachPartition => PartitionCount::Sum,
         }
     }
@@ -58,9 +55,12 @@ impl Declaration {
     fn is_refused(&self, earlier: &[Declaration]) -> bool
         ensures { result ≡ is_refused earlier.now self.now }
     {
-        self.kind < 16
-            || find(earlier, self.kind).is_some()
-            || matches!(self.shape, Shape::RowForRow) && self.fetch
+        match Kind::from(self.kind) {
+            Kind::Operator(_) => {
+                find(earlier, self.kind).is_some() || self.shape == Shape::RowForRow && self.fetch
+            }
+            _ => true,
+        }
     }
 }
 
@@ -69,17 +69,11 @@ fn check_declarations(list: &[Declaration]) -> Result<(), Fault>
     ensures { result ≡ declared_answer list.now }
 {
     if list.len() > MAX_DECLARATIONS {
-        return Err(Fault {
-            refusal: Refusal::Declaration,
-            place: MAX_DECLARATIONS,
-        });
+        return Err(Refusal::Declaration.at(MAX_DECLARATIONS));
     }
     for (place, d) in list.iter().enumerate() {
-        if d.is_refused(&list[0..place]) {
-            return Err(Fault {
-                refusal: Refusal::Declaration,
-                place,
-            });
+        if d.is_refused(&list[..place]) {
+            return Err(Refusal::Declaration.at(place));
         }
     }
     Ok(())
@@ -115,48 +109,33 @@ impl OperatorSet for DeclaredSet<'_> {
     ghost answers = { λ s. declared_answers s.declarations.now };
 
     fn fits(&self, kind: u8, _parameter: u32, children: u8) -> bool {
-        if kind < 16 {
-            return kind != 8 && kind != 9;
-        }
-        match find(self.declarations, kind) {
-            Some(d) => d.shape.fits(children),
-            None => false,
+        match Kind::from(kind) {
+            Kind::Operator(_) => find(self.declarations, kind).is_some_and(|d| d
+                .shape
+                .fits(children)),
+            Kind::BoundedWindowAgg | Kind::Aggregate => false,
+            _ => true,
         }
     }
 
     fn limits_pass(&self, kind: u8, _parameter: u32) -> LimitsPass {
-        match find(self.declarations, kind) {
-            Some(d) => d.shape.limits_pass(),
-            None => LimitsPass::No,
-        }
+        find(self.declarations, kind).map_or(LimitsPass::No, |d| d.shape.limits_pass())
     }
 
     fn takes_fetch(&self, kind: u8, _parameter: u32) -> bool {
-        match find(self.declarations, kind) {
-            Some(d) => d.fetch,
-            None => false,
-        }
+        find(self.declarations, kind).is_some_and(|d| d.fetch)
     }
 
     fn takes_mark(&self, kind: u8, _parameter: u32) -> bool {
-        match find(self.declarations, kind) {
-            Some(d) => d.mark,
-            None => false,
-        }
+        find(self.declarations, kind).is_some_and(|d| d.mark)
     }
 
     fn effect(&self, kind: u8, _parameter: u32) -> CardinalityEffect {
-        match find(self.declarations, kind) {
-            Some(d) => d.effect,
-            None => CardinalityEffect::Unknown,
-        }
+        find(self.declarations, kind).map_or(CardinalityEffect::Unknown, |d| d.effect)
     }
 
     fn partitions(&self, kind: u8, _parameter: u32) -> PartitionCount {
-        match find(self.declarations, kind) {
-            Some(d) => d.shape.partitions(d.number),
-            None => PartitionCount::Sum,
-        }
+        find(self.declarations, kind).map_or(PartitionCount::Sum, |d| d.shape.partitions())
     }
 
     fn known_empty(&self, _kind: u8, _parameter: u32) -> KnownEmpty {

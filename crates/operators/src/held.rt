@@ -5,7 +5,7 @@ ghost use Rattle.operators.specs.Declarations.{declared_answer};
 use super::Declaration;
 
 /// Operators as declared: it holds only declarations that it has not refused.
-#[derive(Clone, Copy)]
+#[derive(Clone, Copy, PartialEq, Eq, Debug)]
 pub struct DeclaredSet<'a> {
     pub declarations: &'a [Declaration],
     ghost accepted: { is_ok (declared_answer declarations.now) ≡ true },

@@ -1,6 +1,6 @@
 // The answers for every kind of cell: those for the kinds below 16 stand here, and here alone.
 ghost use Rattle.std.specs.Prelude.{◌≡◌, ◌+◌, ◌^◌, ◌≤◌};
-ghost use Rattle.operators.specs.Questions.{fits_of, passes_limits, takes_fetch, takes_mark, effect_of, one_partition, count_by, partitions_of, empty_by, empty_of};
+ghost use Rattle.operators.specs.Questions.{fits_of, passes_limits, takes_fetch, takes_mark, effect_of, count_by, partitions_of, empty_by, empty_of};
 
 use super::{CardinalityEffect, KnownEmpty, LimitsPass, OperatorSet, PartitionCount};
 use plan::{Cell, Kind, MAX_CHILDREN, MAX_PARAMETER};
@@ -58,10 +58,7 @@ pub fn passes_limits<O: OperatorSet>(set: &O, cell: &Cell) -> bool
 {
     match Kind::from(cell.kind) {
         Kind::Projection | Kind::CoalescePartitions | Kind::SortPreservingMerge => true,
-        Kind::Operator(_) => matches!(
-            set.limits_pass(cell.kind, cell.parameter),
-            LimitsPass::RowForRow
-        ),
+        Kind::Operator(_) => set.limits_pass(cell.kind, cell.parameter) == LimitsPass::RowForRow,
         _ => false,
     }
 }
@@ -105,27 +102,18 @@ pub fn effect<O: OperatorSet>(set: &O, cell: &Cell) -> CardinalityEffect
     }
 }
 
-fn has_one_partition(kind: u8) -> bool
-    ensures { result ≡ one_partition kind }
-{
-    matches!(
-        Kind::from(kind),
-        Kind::Empty
-            | Kind::PlaceholderRow
-            | Kind::GlobalLimit
-            | Kind::CoalescePartitions
-            | Kind::SortPreservingMerge
-    )
-}
-
 /// How many partitions it has, if its children have `total` in all.
 pub fn partitions<O: OperatorSet>(set: &O, cell: &Cell, total: u64) -> u64
     ensures value { result ≡ partitions_of (O.OperatorSet.answers set.now) cell.now.kind cell.now.parameter total }
     ensures bound { result ≤ total + 2 ^ 32 }
 {
     match Kind::from(cell.kind) {
+        Kind::Empty
+        | Kind::PlaceholderRow
+        | Kind::GlobalLimit
+        | Kind::CoalescePartitions
+        | Kind::SortPreservingMerge => 1,
         Kind::Operator(_) => set.partitions(cell.kind, cell.parameter).of_total(total),
-        _ if has_one_partition(cell.kind) => 1,
         _ => total,
     }
 }

@@ -5,7 +5,7 @@ ghost use Rattle.operators.specs.Windows.{following_in, relative_in, reaches, re
 use super::{FrameBound, FrameUnits, LimitEffect, WindowExpr};
 
 /// The largest following and the largest relative number of a window's expressions: its reach is their sum.
-#[derive(Clone, Copy)]
+#[derive(Clone, Copy, PartialEq, Eq, Debug)]
 pub struct Reach {
     pub following: u64,
     pub relative: u64,

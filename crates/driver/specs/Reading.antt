@@ -62,13 +62,13 @@ exprs_of rows = map expr_of (take max_exprs rows)
 abbrev pub width_of : ℕ → ℕ
 width_of n = max 1 (min n 16)
 
--- 0 is a source, 1 row for row, 2 each partition, else gathering
-abbrev pub shape_of : ℕ → Shape
-shape_of n = cond (n == 0) Source (cond (n == 1) RowForRow (cond (n == 2) EachPartition Gathering))
+-- 0 is a source, 1 row for row, 2 each partition, else gathering; a source and a gathering have so many partitions
+abbrev pub shape_of : ℕ → ℕ → Shape
+shape_of n ps = cond (n == 0) (Source ps) (cond (n == 1) RowForRow (cond (n == 2) EachPartition (Gathering ps)))
 
 -- a declaration
 abbrev pub declaration_of : DeclarationRow → Declaration
-declaration_of r = record { kind = r.kind; shape = shape_of r.shape; fetch = r.fetch; mark = r.mark; effect = effect_of r.effect; number = r.number }
+declaration_of r = record { kind = r.kind; shape = shape_of r.shape r.number; fetch = r.fetch; mark = r.mark; effect = effect_of r.effect }
 
 -- so many are read, one more than a set takes, so that a longer list is refused as it would be
 abbrev pub max_rows : ℕ

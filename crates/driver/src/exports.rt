@@ -106,11 +106,10 @@ pub extern "C" fn driver_declared(
 {
     let mut read = [Declaration {
         kind: 0,
-        shape: Shape::Source,
+        shape: Shape::Source { partitions: 0 },
         fetch: false,
         mark: false,
         effect: CardinalityEffect::Unknown,
-        number: 0,
     }; 241];
     let count = read_declarations(rows, &mut read);
     let mut set = DeclaredSet::new();

@@ -83,14 +83,14 @@ pub(super) fn expr_of(row: &ExprRow) -> WindowExpr
     }
 }
 
-fn shape_of(number: u8) -> Shape
-    ensures { result ≡ shape_of number }
+fn shape_of(number: u8, partitions: u32) -> Shape
+    ensures { result ≡ shape_of number partitions }
 {
     match number {
-        0 => Shape::Source,
+        0 => Shape::Source { partitions },
         1 => Shape::RowForRow,
         2 => Shape::EachPartition,
-        _ => Shape::Gathering,
+        _ => Shape::Gathering { partitions },
     }
 }
 
@@ -99,10 +99,9 @@ pub(super) fn declaration_of(row: &DeclarationRow) -> Declaration
 {
     Declaration {
         kind: row.kind,
-        shape: shape_of(row.shape),
+        shape: shape_of(row.shape, row.number),
         fetch: row.fetch,
         mark: row.mark,
         effect: effect_of(row.effect),
-        number: row.number,
     }
 }

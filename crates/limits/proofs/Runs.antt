@@ -9,7 +9,7 @@ use Rattle.operators.specs.Answers.{Answers}
 use Rattle.limits.specs.declared.rules.Rule.TheVariants.{Sink}
 use Rattle.limits.specs.declared.rules.RuleCall.{RuleCall}
 use Rattle.limits.specs.Calls.{Lent, call_answer}
-use Rattle.limits.specs.Laws.{count_after, Ran, ran, asked, answered_calls}
+use Rattle.limits.specs.Laws.{count_after, Called, Ran, ran, asked, answered_calls}
 
 -- what is read past the end
 abbrev pub no_call : RuleCall
@@ -26,11 +26,10 @@ pub begun : (a : Answers) (lent : Lent) (asks : List RuleCall) (table : List Cel
 begun a lent asks table count = record { same = refl; table_is = refl; count_is = refl; answers_are = refl }
 
 module _ (a : Answers) (lent : Lent) (asks calls : List RuleCall) (all : Ran) (p : ℕ) (table : List Cell) (count : ℕ) (s : SoFar a lent asks calls all p table count) where
-  pub run_more : p < length asks → p < length calls → (answer : Result ℕ Fault) (new : List Cell) (nodes : ℕ) →
-      let whole = call_answer a (get_or calls p no_call).rule table count lent in
-      answer ≡ counted whole → new ≡ laid blank whole table → nodes ≡ count_after answer count
+  pub run_more : p < length asks → p < length calls → (memory : Lent) → memory ≡ lent → (answer : Result ℕ Fault) (new : List Cell) (nodes : ℕ)
+      → Called a (get_or calls p no_call).rule memory count table new answer → nodes ≡ count_after answer count
       → SoFar a lent asks (set calls p (record { rule = (get_or calls p no_call).rule; answer = Some answer })) all (p + 1) new nodes
-  run_more h l answer new nodes answered written passed =
+  run_more h l memory same answer new nodes called passed =
       let k = get_or asks p no_call in
       let rest = drop (p + 1) asks in
       let more : drop p asks ≡ k ∷ rest = drop_more asks p no_call h in
@@ -38,9 +37,9 @@ module _ (a : Answers) (lent : Lent) (asks calls : List RuleCall) (all : Ran) (p
       let here : get_or calls p no_call ≡ k = cc in
       let behind : drop (p + 1) calls ≡ rest = cc in
       let whole = call_answer a k.rule table count lent in
-      let rule_is : call_answer a (get_or calls p no_call).rule table count lent ≡ whole = ap (λ (c : RuleCall). call_answer a c.rule table count lent) here in
-      let answer_is : answer ≡ counted whole = answered ∙ ap counted rule_is in
-      let table_is : new ≡ laid blank whole table = written ∙ ap (λ (r : Result (List Cell) Fault). laid blank r table) rule_is in
+      let rule_is : call_answer a (get_or calls p no_call).rule table count memory ≡ whole = λ i. call_answer a (here i).rule table count (same i) in
+      let answer_is : answer ≡ counted whole = called.answered ∙ ap counted rule_is in
+      let table_is : new ≡ laid blank whole table = called.written ∙ ap (λ (r : Result (List Cell) Fault). laid blank r table) rule_is in
       let count_is : nodes ≡ count_after (counted whole) count = passed ∙ ap (λ (r : Result ℕ Fault). count_after r count) answer_is in
       let made : RuleCall = record { rule = (get_or calls p no_call).rule; answer = Some answer } in
       let made_is : made ≡ record { rule = k.rule; answer = Some (counted whole) } = λ i. record { rule = (here i).rule; answer = Some (answer_is i) } in

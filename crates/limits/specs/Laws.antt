@@ -1,5 +1,6 @@
 -- What no call, and no run of calls, changes for a scholar. Assumes nothing.
-use Rattle.std.specs.Prelude.{◌≡◌, ℕ, List, [], ◌∷◌, take, Some, Ok, Err, Result}
+use Rattle.std.specs.Prelude.{◌≡◌, ℕ, List, [], ◌∷◌, take, Some, Result}
+use Rattle.std.specs.Result.{result_unwrap_or}
 use Rattle.plan.specs.declared.cells.Cell.{Cell}
 use Rattle.plan.specs.declared.refusals.Fault.{Fault}
 use Rattle.plan.specs.Cells.{blank}
@@ -15,8 +16,7 @@ use Rattle.limits.specs.Calls.{Lent, call_answer}
 
 -- the node count that a call passes on: the new one, or the one that it got
 abbrev pub count_after : Result ℕ Fault → ℕ → ℕ
-count_after (Ok n) count = n
-count_after (Err e) count = count
+count_after = result_unwrap_or
 
 -- each partition of the root has the same rows in the same order; and an accepted plan stays accepted, with as many partitions
 pub record PageKept (a : Answers) (m : Meaning) (before after : List Cell) : Type 0 where

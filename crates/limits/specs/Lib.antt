@@ -1,3 +1,4 @@
+pub mod Rules
 pub mod Sums
 pub mod Pending
 pub mod Calls

@@ -15,6 +15,6 @@ mod worked;
 pub use calls::{call, grow, hint, sink};
 pub use memory::Memory;
 pub use pending::Pending;
-pub use rules::{Rule, RuleCall};
+pub use rules::{Rule, RuleCall, UnknownRule};
 pub use running::run;
 pub use worked::worked_plans;

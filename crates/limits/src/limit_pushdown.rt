@@ -8,7 +8,7 @@ ghost use Rattle.plan.specs.Stacks.{content};
 ghost use Rattle.checks.specs.Accepts.{Accepted};
 ghost use Rattle.checks.specs.Facts.{head_fact, every_fact};
 ghost use Rattle.rows.specs.Sums.{too_large};
-ghost use Rattle.sinks.specs.Sink.{combined, known_within, past_limit, past_fetch, only_if, new_global, new_local, onward, satisfied_to, skipped, gathered, fetched, limited, visited_by, total_of, sink_sum};
+ghost use Rattle.sinks.specs.Sink.{combined, known_within, past_limit, past_fetch, new_global, new_local, onward, satisfied_to, skipped, gathered, fetched, limited, visited_by, total_of, sink_sum};
 ghost use Rattle.limits.specs.Sums.{sum_answer};
 ghost use Rattle.limits.specs.Calls.{rule_answer, front_of};
 ghost use Rattle.limits.specs.declared.rules.Rule.TheVariants.{Sink};
@@ -22,7 +22,7 @@ use plan::{Cell, Fault, Kind, Stack};
 use sinks::{GlobalRequirements, Visited};
 
 /// What stands in a cell's place, and what is pending below it.
-#[derive(Clone, Copy)]
+#[derive(Clone, Copy, PartialEq, Eq, Debug)]
 pub(super) struct Stepped {
     pub above: Option<Cell>,
     pub node: Option<Cell>,
@@ -92,11 +92,9 @@ fn new_global(skip: u64, fetch: Option<u64>) -> Cell
     ensures { result ≡ new_global skip fetch }
 {
     Cell {
-        kind: 2,
-        children: 1,
         fetch,
         skip,
-        ..Cell::BLANK
+        ..Cell::new(Kind::GlobalLimit, 1, 0)
     }
 }
 
@@ -104,17 +102,9 @@ fn new_local(fetch: u64) -> Cell
     ensures { result ≡ new_local fetch }
 {
     Cell {
-        kind: 3,
-        children: 1,
         fetch: Some(fetch),
-        ..Cell::BLANK
+        ..Cell::new(Kind::LocalLimit, 1, 0)
     }
-}
-
-fn only_if(needed: bool, limit: Cell) -> Option<Cell>
-    ensures { result ≡ only_if needed limit }
-{
-    if needed { Some(limit) } else { None }
 }
 
 /// What is pending goes on down, but once it is satisfied nothing is skipped any more.
@@ -163,7 +153,7 @@ fn gathered(pending: GlobalRequirements, cell: &Cell, fetch: u64) -> Visited
 {
     let total = fetch + pending.skip;
     Visited {
-        above: only_if(pending.skip > 0, new_global(pending.skip, Some(fetch))),
+        above: (pending.skip > 0).then_some(new_global(pending.skip, Some(fetch))),
         node: Cell {
             fetch: Some(total),
             ..*cell
@@ -177,10 +167,10 @@ fn fetched<O: OperatorSet>(set: &O, pending: GlobalRequirements, cell: &Cell, fe
     requires { fetch + pending.skip < 2 ^ 64 }
     ensures { result ≡ fetched (O.OperatorSet.answers set.now) pending cell.now fetch }
 {
-    let marks = takes_mark(set, cell.kind, cell.parameter);
+    let marks = takes_mark(set, cell);
     let unsatisfied = pending.skip > 0 && !pending.satisfied;
     Visited {
-        above: only_if(unsatisfied, new_global(pending.skip, Some(fetch))),
+        above: unsatisfied.then_some(new_global(pending.skip, Some(fetch))),
         node: Cell {
             fetch: Some(fetch + pending.skip),
             mark: if marks {
@@ -205,7 +195,7 @@ fn limited(pending: GlobalRequirements, cell: &Cell, partitions: u64, fetch: u64
         new_local(fetch + pending.skip)
     };
     Visited {
-        above: only_if(!pending.satisfied, limit),
+        above: (!pending.satisfied).then_some(limit),
         node: *cell,
         next: satisfied_to(pending, None),
     }
@@ -226,12 +216,12 @@ fn visit<O: OperatorSet>(
     };
     match Kind::from(cell.kind) {
         Kind::CoalescePartitions | Kind::SortPreservingMerge => gathered(pending, cell, fetch),
-        _ if passes_limits(set, cell.kind, cell.parameter) => Visited {
+        _ if passes_limits(set, cell) => Visited {
             above: None,
             node: *cell,
             next: onward(pending),
         },
-        _ if takes_fetch(set, cell.kind, cell.parameter) => fetched(set, pending, cell, fetch),
+        _ if takes_fetch(set, cell) => fetched(set, pending, cell, fetch),
         _ => limited(pending, cell, partitions, fetch),
     }
 }

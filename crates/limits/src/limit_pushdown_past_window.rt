@@ -16,17 +16,15 @@ use rows::{Phase, TraverseState, Turn};
 fn lets_through<O: OperatorSet>(set: &O, cell: &Cell) -> bool
     ensures { result ≡ lets_through (O.OperatorSet.answers set.now) cell.now.kind cell.now.parameter }
 {
-    if !passes_limits(set, cell.kind, cell.parameter) {
-        return false;
-    }
-    match effect(set, cell.kind, cell.parameter) {
-        CardinalityEffect::Equal | CardinalityEffect::GreaterEqual => true,
-        CardinalityEffect::Unknown | CardinalityEffect::LowerEqual => false,
-    }
+    passes_limits(set, cell)
+        && matches!(
+            effect(set, cell),
+            CardinalityEffect::Equal | CardinalityEffect::GreaterEqual
+        )
 }
 
 /// The walk over the nodes, each before its children.
-#[derive(Clone, Copy)]
+#[derive(Clone, Copy, PartialEq, Eq, Debug)]
 struct Traversal {
     state: TraverseState,
 }
@@ -46,11 +44,8 @@ impl Traversal {
         ensures answer { result ≡ sum_answer place (limit_found cell.now.skip cell.now.fetch) }
         ensures state { is_ok result ≡ true → self.new.state ≡ reset_limit self.old.state (limit_found cell.now.skip cell.now.fetch) }
     {
-        let limit = match cell.fetch {
-            Some(fetch) => Some(sum_at(place, cell.skip, fetch)?),
-            None => None,
-        };
-        self.reset_limit(limit);
+        let limit = cell.fetch.map(|fetch| sum_at(place, cell.skip, fetch));
+        self.reset_limit(limit.transpose()?);
         Ok(())
     }
 
@@ -83,10 +78,7 @@ impl Traversal {
         let grown = sum_at(place, limit, self.state.lookahead)?;
         self.reset_limit(None);
         self.state.ended = true;
-        let fetch = match cell.fetch {
-            Some(own) => own.min(grown),
-            None => grown,
-        };
+        let fetch = cell.fetch.map_or(grown, |own| own.min(grown));
         Ok(Cell {
             fetch: Some(fetch),
             ..*cell

@@ -28,13 +28,9 @@ fn hint_sum(cell: &Cell, place: usize) -> Result<Option<u64>, Fault>
 fn takes_hint<O: OperatorSet>(set: &O, above: Option<u32>, cell: &Cell) -> bool
     ensures { result ≡ takes_hint (O.OperatorSet.answers set.now) above cell.now }
 {
-    if !matches!(Kind::from(cell.kind), Kind::Aggregate) || !set.plain_distinct(cell.parameter) {
-        return false;
-    }
-    match above {
-        Some(group) => group == set.group(cell.parameter),
-        None => true,
-    }
+    matches!(Kind::from(cell.kind), Kind::Aggregate)
+        && set.plain_distinct(cell.parameter)
+        && above.is_none_or(|group| group == set.group(cell.parameter))
 }
 
 fn hinted<O: OperatorSet>(set: &O, handed: Option<Handed>, cell: &Cell) -> Cell
@@ -66,10 +62,7 @@ fn hand_on<O: OperatorSet>(set: &O, handed: Option<Handed>, cell: &Cell) -> Opti
 fn hand_down(sum: Option<u64>, on: Option<Handed>) -> Option<Handed>
     ensures { result ≡ hint_next_by sum on }
 {
-    match sum {
-        Some(hint) => Some(Handed { hint, group: None }),
-        None => on,
-    }
+    sum.map(|hint| Handed { hint, group: None }).or(on)
 }
 
 /// Writes the hinted plan over the front of the work table.

@@ -8,7 +8,7 @@ use plan::Stack;
 use sinks::GlobalRequirements;
 
 /// An entry of the requirement stack.
-#[derive(Clone, Copy)]
+#[derive(Clone, Copy, PartialEq, Eq, Debug)]
 pub struct Pending {
     pub requirement: GlobalRequirements,
     /// How many subtrees still to come share it.

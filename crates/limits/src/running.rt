@@ -8,16 +8,6 @@ use crate::calls::call;
 use operators::OperatorSet;
 use plan::{Cell, Fault};
 
-/// The node count that a call passes on: the new one, or the one that it got.
-fn passed_on(answer: Result<usize, Fault>, count: usize) -> usize
-    ensures { result ≡ count_after answer count }
-{
-    match answer {
-        Ok(granted) => granted,
-        Err(_) => count,
-    }
-}
-
 /// Makes the calls of a list one after another, each on the plan table and the node count that the one before it passed on, and gives
 /// each its answer. It answers the last node count. The lent memory is blank afterwards.
 ///
@@ -40,14 +30,10 @@ pub fn run<O: OperatorSet>(
 {
     memory.clear();
     let mut nodes = count;
-    for place in 0..calls.len() {
-        let rule = calls[place].rule;
-        let answer = call(rule, set, plan, nodes, memory);
-        calls[place] = RuleCall {
-            rule,
-            answer: Some(answer),
-        };
-        nodes = passed_on(answer, nodes);
+    for made in calls.iter_mut() {
+        let answer = call(made.rule, set, plan, nodes, memory);
+        made.answer = Some(answer);
+        nodes = answer.unwrap_or(nodes);
     }
     nodes
 }

@@ -12,9 +12,6 @@ pub(super) fn sum_at(place: usize, a: u64, b: u64) -> Result<u64, Fault>
 {
     match a.checked_add(b) {
         Some(sum) if sum <= MAX_NUMBER => Ok(sum),
-        _ => Err(Fault {
-            refusal: Refusal::Sum,
-            place,
-        }),
+        _ => Err(Refusal::Sum.at(place)),
     }
 }

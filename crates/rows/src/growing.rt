@@ -1,14 +1,14 @@
 // What grow knows on its walk over the nodes, each before its children.
 
 /// Whether the walk still looks for the lowest limit above the windows, or has passed a window since.
-#[derive(Clone, Copy)]
+#[derive(Clone, Copy, PartialEq, Eq, Debug)]
 pub enum Phase {
     FindOrGrow,
     Apply,
 }
 
 /// What grow knows where it reaches a node.
-#[derive(Clone, Copy)]
+#[derive(Clone, Copy, PartialEq, Eq, Debug)]
 pub struct TraverseState {
     pub phase: Phase,
     /// How many first rows the nodes above ask for.
@@ -20,7 +20,7 @@ pub struct TraverseState {
 }
 
 /// What the walk does at a node.
-#[derive(Clone, Copy)]
+#[derive(Clone, Copy, PartialEq, Eq, Debug)]
 pub enum Turn {
     /// Nothing changes.
     Keep,

@@ -1,7 +1,7 @@
 // What hint hands down on its walk over the nodes, each before its children.
 
 /// What a limit hands down to the aggregates right below it.
-#[derive(Clone, Copy)]
+#[derive(Clone, Copy, PartialEq, Eq, Debug)]
 pub struct Handed {
     /// The limit's skip plus its fetch.
     pub hint: u64,

@@ -2,7 +2,7 @@
 use plan::Cell;
 
 /// What is pending where a subtree begins. It bears DataFusion's names.
-#[derive(Clone, Copy)]
+#[derive(Clone, Copy, PartialEq, Eq, Debug)]
 pub struct GlobalRequirements {
     /// How many first rows are still to be dropped.
     pub skip: u64,
@@ -25,7 +25,7 @@ impl GlobalRequirements {
 }
 
 /// What a visit of a node gives.
-#[derive(Clone, Copy)]
+#[derive(Clone, Copy, PartialEq, Eq, Debug)]
 pub struct Visited {
     /// The limit that goes above the node, if there is one.
     pub above: Option<Cell>,

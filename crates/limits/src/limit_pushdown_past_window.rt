@@ -36,7 +36,6 @@ impl Traversal {
     {
         self.state.limit = limit;
         self.state.lookahead = 0;
-        self.state.ended = false;
     }
 
     /// Grabs the latest limit.
@@ -59,7 +58,6 @@ impl Traversal {
             Some(reach) => {
                 let ahead = self.state.lookahead.max(reach.following);
                 self.state.lookahead = sum_at(place, ahead, reach.relative)?;
-                self.state.ended = false;
             }
             None => self.reset_limit(None),
         }
@@ -77,7 +75,7 @@ impl Traversal {
         };
         let grown = sum_at(place, limit, self.state.lookahead)?;
         self.reset_limit(None);
-        self.state.ended = true;
+        self.state.phase = Phase::Ended;
         let fetch = cell.fetch.map_or(grown, |own| own.min(grown));
         Ok(Cell {
             fetch: Some(fetch),
@@ -89,13 +87,9 @@ impl Traversal {
     fn turn<O: OperatorSet>(&self, set: &O, cell: &Cell) -> Turn
         ensures { result ≡ turn (O.OperatorSet.answers set.now) self.now.state cell.now }
     {
-        if self.state.ended {
-            return Turn::Keep;
-        }
-        if cell.children > 1 {
-            return Turn::Reset;
-        }
         match (self.state.phase, Kind::from(cell.kind)) {
+            (Phase::Ended, _) => Turn::Keep,
+            _ if cell.children > 1 => Turn::Reset,
             (Phase::FindOrGrow, Kind::GlobalLimit | Kind::LocalLimit | Kind::SortPreservingMerge) =>
                 Turn::Find,
             (_, Kind::BoundedWindowAgg) => Turn::Grow,
@@ -153,7 +147,6 @@ fn walk_cells<O: OperatorSet>(set: &O, cells: &[Cell], work: &mut [Cell]) -> Res
             phase: Phase::FindOrGrow,
             limit: None,
             lookahead: 0,
-            ended: false,
         },
     };
     for (place, cell) in cells.iter().enumerate() {

@@ -17,7 +17,7 @@ use Rattle.rows.specs.declared.growing.Turn.TheVariants.{Keep, Reset, Find, Grow
 use Rattle.rows.specs.declared.growing.Turn.TheVariants.{Apply as ApplyHere}
 use Rattle.rows.specs.declared.hinting.Handed.{Handed}
 use Rattle.rows.specs.Sums.{too_large}
-use Rattle.rows.specs.Grow.{grow_first, applying, applies, turn_by, turn, grow_next, smaller_fetch, with_fetch, applied, grown_cell_by, grown_cell, grown, grown_plan, apply_sum, grow_sum_by, grow_sum, grow_sums_from, grow_sums}
+use Rattle.rows.specs.Grow.{grow_first, applying, ended, applies, turn_by, turn, grow_next, smaller_fetch, with_fetch, applied, grown_cell_by, grown_cell, grown, grown_plan, apply_sum, grow_sum_by, grow_sum, grow_sums_from, grow_sums}
 use Rattle.rows.specs.Hint.{takes_hint, with_hint, hinted_cell, hint_sum, handed_on, hint_next_by, hint_next, hinted, hinted_plan, hint_sums_from, hint_sums}
 use Rattle.rows.specs.Laws.{StillAccepted}
 use Rattle.rows.proofs.Passed.{refused_not, Fields, Hints, passed, accepted}
@@ -107,7 +107,7 @@ module _ (a : Answers) where
   put_on_by p c false false false false false false h = tt
 
   put_on : (s : TraverseState) (c : Cell) → PutOn (turn a s c) c
-  put_on s c = put_on_by s.phase c s.ended _ _ _ (applies s.phase c.kind) _ refl
+  put_on s c = put_on_by s.phase c (ended s.phase) _ _ _ (applies s.phase c.kind) _ refl
 
   smaller_small : (f : Option ℕ) (n : ℕ) → n ≤ max_number → leb (smaller_fetch f n) max_number ≡ true
   smaller_small None n l = le-leb n max_number l

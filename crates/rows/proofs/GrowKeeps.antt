@@ -15,12 +15,12 @@ use Rattle.operators.specs.Rules.{Agree, Rules, each}
 use Rattle.checks.specs.Cells.{fit_cell}
 use Rattle.checks.specs.Windows.{window_refused, below_after}
 use Rattle.rows.specs.declared.growing.Phase.{Phase}
-use Rattle.rows.specs.declared.growing.Phase.TheVariants.{FindOrGrow, Apply}
+use Rattle.rows.specs.declared.growing.Phase.TheVariants.{FindOrGrow, Apply, Ended}
 use Rattle.rows.specs.declared.growing.TraverseState.{TraverseState}
 use Rattle.rows.specs.declared.growing.Turn.{Turn}
 use Rattle.rows.specs.declared.growing.Turn.TheVariants.{Keep, Reset, Find, Grow}
 use Rattle.rows.specs.declared.growing.Turn.TheVariants.{Apply as ApplyHere}
-use Rattle.rows.specs.Grow.{grow_first, finding, finds, applies, lets_through, turn_by, turn, reset_limit, limit_found, past_window, past_apply, grow_next_by, grow_next, smaller_fetch, with_fetch, applied, grown_cell_by, grown, grown_plan}
+use Rattle.rows.specs.Grow.{grow_first, finding, ended, finds, applies, lets_through, turn_by, turn, reset_limit, limit_found, past_window, past_apply, grow_next_by, grow_next, smaller_fetch, with_fetch, applied, grown_cell_by, grown, grown_plan}
 use Rattle.rows.proofs.Agreeing.{map-map, map_same, take_twice, agree_count, agree_join, agree_less, agree_each, agree_rows, agree_cut, agree_limit, concat_one}
 use Rattle.rows.proofs.Base.{kind_one, through_limit, through_some, made_limit, made_joined, made_meant}
 use Rattle.rows.proofs.Passed.{Fit, WindowsPass}
@@ -99,9 +99,10 @@ agree_made : (N : ℕ) (m : Meaning) (c : Cell) (o n : Partitions) (x y : Partit
 agree_made N m c o n x y e f h = agree_cut N c.fetch _ _ (ap (map (take N)) e ∙ h ∙ ap (map (take N)) (sym f))
 
 -- where neither a limit is found nor one applied there is no merge
-no_merge : (p : Phase) (k : ℕ) → finds p k ≡ false → applies p k ≡ false → eqb k sort_preserving_merge ≡ false
-no_merge FindOrGrow k e f = (or_parts (is_limit k) (eqb k sort_preserving_merge) e).1
-no_merge Apply k e f = (or_parts (eqb k sort) (eqb k sort_preserving_merge) f).1
+no_merge : (p : Phase) (k : ℕ) → ended p ≡ false → finds p k ≡ false → applies p k ≡ false → eqb k sort_preserving_merge ≡ false
+no_merge FindOrGrow k on e f = (or_parts (is_limit k) (eqb k sort_preserving_merge) e).1
+no_merge Apply k on e f = (or_parts (eqb k sort) (eqb k sort_preserving_merge) f).1
+no_merge Ended k on e f = absurd (false≢true (sym on))
 
 -- either nothing is looked ahead, or a window above does
 abbrev Ahead : TraverseState → ℕ → Type 0
@@ -113,7 +114,7 @@ reach_if b es = cond b (Some (record { following = following_of es; relative = r
 
 -- the walk that has ended has no limit
 abbrev Stopped : TraverseState → Type 0
-Stopped s = s.ended ≡ true → (s.limit ≡ None) × (s.lookahead ≡ 0)
+Stopped s = ended s.phase ≡ true → (s.limit ≡ None) × (s.lookahead ≡ 0)
 
 module _ (a : Answers) (m : Meaning) (rules : Rules a m) where
   through_one : (k p n : ℕ) → fits_of a k p n ≡ true → passes_limits a k p ≡ true → n < 2 → n ≡ 1
@@ -189,7 +190,7 @@ module _ (a : Answers) (m : Meaning) (rules : Rules a m) where
 
   -- one node, by the tests of `turn`
   step : (s : TraverseState) (c : Cell) (below : ℕ) (os ns : List Partitions) → fit_cell a c ≡ true → window_refused a below c ≡ false → Ahead s below → Stopped s → (e f d w z t : Bool)
-      → s.ended ≡ e → leb 2 c.children ≡ f → finds s.phase c.kind ≡ d → eqb c.kind bounded_window_agg ≡ w → applies s.phase c.kind ≡ z → lets_through a c.kind c.parameter ≡ t
+      → ended s.phase ≡ e → leb 2 c.children ≡ f → finds s.phase c.kind ≡ d → eqb c.kind bounded_window_agg ≡ w → applies s.phase c.kind ≡ z → lets_through a c.kind c.parameter ≡ t
       → Nears (grow_next_by (turn_by e f d w z t) a s c) os ns → Kept m s c (grown_cell_by (turn_by e f d w z t) s c) os ns
   step s c below os ns fit win ahead stop true f d w z t e1 e2 e3 e4 e5 e6 h = kept_same m s c os ns (nears_same s os ns (stop e1).0 h)
   step s c below os ns fit win ahead stop false true d w z t e1 e2 e3 e4 e5 e6 h = kept_same m s c os ns (nears_same (reset_limit s None) os ns refl h)
@@ -209,7 +210,7 @@ module _ (a : Answers) (m : Meaning) (rules : Rules a m) where
   step s c below os ns fit win ahead stop false false false false false true e1 e2 e3 e4 e5 e6 h =
       let pass : passes_limits a c.kind c.parameter ≡ true = (and_parts _ _ e6).0 in
       let one : c.children ≡ 1 = through_one c.kind c.parameter c.children fit pass (grind (arith, nat_tests)) in
-      kept_one m s s c os ns one h (λ o n k. through_near c s.limit s.lookahead o n fit one pass (no_merge s.phase c.kind e3 e5) k)
+      kept_one m s s c os ns one h (λ o n k. through_near c s.limit s.lookahead o n fit one pass (no_merge s.phase c.kind e1 e3 e5) k)
   step s c below os ns fit win ahead stop false false false false false false e1 e2 e3 e4 e5 e6 h = kept_same m s c os ns (nears_same (reset_limit s None) os ns refl h)
 
   past_stopped : (s : TraverseState) (r : Option Reach) → Stopped (past_window s r)
@@ -217,15 +218,17 @@ module _ (a : Answers) (m : Meaning) (rules : Rules a m) where
   past_stopped s (Some r) e = absurd (false≢true e)
 
   apply_stopped : (s : TraverseState) (l : Option ℕ) → Stopped (past_apply s l)
-  apply_stopped s None e = absurd (false≢true e)
+  apply_stopped s None e = (refl, refl)
   apply_stopped s (Some l) e = (refl, refl)
 
-  next_stopped : (s : TraverseState) (c : Cell) → Stopped s → (t : Turn) → Stopped (grow_next_by t a s c)
-  next_stopped s c stop Keep = stop
-  next_stopped s c stop Reset = λ e. absurd (false≢true e)
-  next_stopped s c stop Find = λ e. absurd (false≢true e)
-  next_stopped s c stop Grow = past_stopped s (reach_of (a.window c.parameter))
-  next_stopped s c stop ApplyHere = apply_stopped s s.limit
+  next_stopped : (s : TraverseState) (c : Cell) → Stopped s → (e f d w z t : Bool) → ended s.phase ≡ e → Stopped (grow_next_by (turn_by e f d w z t) a s c)
+  next_stopped s c stop true f d w z t on = stop
+  next_stopped s c stop false true d w z t on = λ e. (refl, refl)
+  next_stopped s c stop false false true w z t on = λ e. absurd (false≢true (sym on ∙ e))
+  next_stopped s c stop false false false true z t on = past_stopped s (reach_of (a.window c.parameter))
+  next_stopped s c stop false false false false true t on = apply_stopped s s.limit
+  next_stopped s c stop false false false false false true on = stop
+  next_stopped s c stop false false false false false false on = λ e. (refl, refl)
 
   apply_lookahead : (s : TraverseState) (l : Option ℕ) → (past_apply s l).lookahead ≡ 0
   apply_lookahead s None = refl
@@ -239,7 +242,7 @@ module _ (a : Answers) (m : Meaning) (rules : Rules a m) where
   keep_ahead s c below one ahead = grind (arith, nat_tests)
 
   next_ahead : (s : TraverseState) (c : Cell) (below : ℕ) → fit_cell a c ≡ true → Ahead s below → Stopped s → (e f d w z t : Bool)
-      → s.ended ≡ e → leb 2 c.children ≡ f → eqb c.kind bounded_window_agg ≡ w → lets_through a c.kind c.parameter ≡ t
+      → ended s.phase ≡ e → leb 2 c.children ≡ f → eqb c.kind bounded_window_agg ≡ w → lets_through a c.kind c.parameter ≡ t
       → Ahead (grow_next_by (turn_by e f d w z t) a s c) (below_after a below c)
   next_ahead s c below fit ahead stop true f d w z t e1 e2 e4 e6 = inl (stop e1).1
   next_ahead s c below fit ahead stop false true d w z t e1 e2 e4 e6 = inl refl
@@ -258,9 +261,9 @@ module _ (a : Answers) (m : Meaning) (rules : Rules a m) where
   unfolding rows grown
   keeps_all [] s below fit win ahead stop = tt
   keeps_all (c ∷ cs) s below fit win ahead stop =
-      let on = next_ahead s c below fit.0 ahead stop s.ended (leb 2 c.children) (finds s.phase c.kind) (eqb c.kind bounded_window_agg) (applies s.phase c.kind) (lets_through a c.kind c.parameter) refl refl refl refl in
-      step s c below (rows m cs) (rows m (grown a (grow_next a s c) cs)) fit.0 win.0 ahead stop s.ended (leb 2 c.children) (finds s.phase c.kind) (eqb c.kind bounded_window_agg) (applies s.phase c.kind) (lets_through a c.kind c.parameter) refl refl refl refl refl refl
-      (keeps_all cs (grow_next a s c) (below_after a below c) fit.1 win.1 on (next_stopped s c stop (turn a s c)))
+      let on = next_ahead s c below fit.0 ahead stop (ended s.phase) (leb 2 c.children) (finds s.phase c.kind) (eqb c.kind bounded_window_agg) (applies s.phase c.kind) (lets_through a c.kind c.parameter) refl refl refl refl in
+      step s c below (rows m cs) (rows m (grown a (grow_next a s c) cs)) fit.0 win.0 ahead stop (ended s.phase) (leb 2 c.children) (finds s.phase c.kind) (eqb c.kind bounded_window_agg) (applies s.phase c.kind) (lets_through a c.kind c.parameter) refl refl refl refl refl refl
+      (keeps_all cs (grow_next a s c) (below_after a below c) fit.1 win.1 on (next_stopped s c stop (ended s.phase) (leb 2 c.children) (finds s.phase c.kind) (eqb c.kind bounded_window_agg) (applies s.phase c.kind) (lets_through a c.kind c.parameter) refl))
 
   pub grow_keeps : (cs : List Cell) → Fit a cs → WindowsPass a 0 cs → rows m (grown_plan a cs) ≡ rows m cs
   grow_keeps cs fit win = sym (nears_same grow_first (rows m cs) (rows m (grown a grow_first cs)) refl (keeps_all cs grow_first 0 fit win (inl refl) (λ e. absurd (false≢true e))))

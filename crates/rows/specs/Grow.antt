@@ -13,7 +13,7 @@ use Rattle.operators.specs.Answers.{Answers}
 use Rattle.operators.specs.Questions.{passes_limits, effect_of}
 use Rattle.operators.specs.Windows.{reach_of}
 use Rattle.rows.specs.declared.growing.Phase.{Phase}
-use Rattle.rows.specs.declared.growing.Phase.TheVariants.{FindOrGrow, Apply}
+use Rattle.rows.specs.declared.growing.Phase.TheVariants.{FindOrGrow, Apply, Ended}
 use Rattle.rows.specs.declared.growing.TraverseState.{TraverseState}
 use Rattle.rows.specs.declared.growing.Turn.{Turn}
 use Rattle.rows.specs.declared.growing.Turn.TheVariants.{Keep, Reset, Find, Grow}
@@ -22,17 +22,25 @@ use Rattle.rows.specs.Sums.{too_large}
 
 -- before the first cell: finding, with no limit and no look-ahead
 abbrev pub grow_first : TraverseState
-grow_first = record { phase = FindOrGrow; limit = None; lookahead = 0; ended = false }
+grow_first = record { phase = FindOrGrow; limit = None; lookahead = 0 }
 
 -- no window is passed yet
 abbrev pub finding : Phase → Bool
 finding FindOrGrow = true
 finding Apply = false
+finding Ended = false
 
 -- a window is passed
 abbrev pub applying : Phase → Bool
 applying FindOrGrow = false
 applying Apply = true
+applying Ended = false
+
+-- a sort or merge got the limit
+abbrev pub ended : Phase → Bool
+ended FindOrGrow = false
+ended Apply = false
+ended Ended = true
 
 -- finding, at a limit or a merge
 abbrev pub finds : Phase → ℕ → Bool
@@ -54,7 +62,7 @@ abbrev pub lets_through : Answers → ℕ → ℕ → Bool
 lets_through a kind parameter = passes_limits a kind parameter && no_fewer (effect_of a kind parameter)
 
 -- what the walk does at a node: the first clause that matches counts
-abbrev pub turn_by : (ended forks finds window applies through : Bool) → Turn
+abbrev pub turn_by : (over forks finds window applies through : Bool) → Turn
 turn_by true forks finds window applies through = Keep
 turn_by false true finds window applies through = Reset
 turn_by false false true window applies through = Find
@@ -67,11 +75,11 @@ turn_by false false false false false false = Reset
 -- and whether it lets limits through
 abbrev pub turn : Answers → TraverseState → Cell → Turn
 turn a s c =
-    turn_by s.ended (nat_le 2 c.children) (finds s.phase c.kind) (c.kind == bounded_window_agg) (applies s.phase c.kind) (lets_through a c.kind c.parameter)
+    turn_by (ended s.phase) (nat_le 2 c.children) (finds s.phase c.kind) (c.kind == bounded_window_agg) (applies s.phase c.kind) (lets_through a c.kind c.parameter)
 
 -- another limit, or none, and no look-ahead
 abbrev pub reset_limit : TraverseState → Option ℕ → TraverseState
-reset_limit s limit = record { phase = s.phase; limit = limit; lookahead = 0; ended = false }
+reset_limit s limit = record { phase = s.phase; limit = limit; lookahead = 0 }
 
 -- skip plus fetch, or absent
 abbrev pub limit_found : ℕ → Option ℕ → Option ℕ
@@ -84,13 +92,13 @@ grown_lookahead s reach = max s.lookahead reach.following + reach.relative
 
 -- below a window: applying from now on, without a reach with no limit
 abbrev pub past_window : TraverseState → Option Reach → TraverseState
-past_window s None = record { phase = Apply; limit = None; lookahead = 0; ended = false }
-past_window s (Some reach) = record { phase = Apply; limit = s.limit; lookahead = grown_lookahead s reach; ended = false }
+past_window s None = record { phase = Apply; limit = None; lookahead = 0 }
+past_window s (Some reach) = record { phase = Apply; limit = s.limit; lookahead = grown_lookahead s reach }
 
 -- below a sort or merge: with no limit reset, else the walk has ended
 abbrev pub past_apply : TraverseState → Option ℕ → TraverseState
 past_apply s None = reset_limit s None
-past_apply s (Some limit) = record { phase = s.phase; limit = None; lookahead = 0; ended = true }
+past_apply s (Some limit) = record { phase = Ended; limit = None; lookahead = 0 }
 
 -- the state behind a node, by what the walk does there
 abbrev pub grow_next_by : Turn → Answers → TraverseState → Cell → TraverseState

@@ -1,10 +1,14 @@
 // What grow knows on its walk over the nodes, each before its children.
 
-/// Whether the walk still looks for the lowest limit above the windows, or has passed a window since.
+/// How far the walk has come. DataFusion has the first two; for the third it stops the traversal, by `TreeNodeRecursion::Stop`.
 #[derive(Clone, Copy, PartialEq, Eq, Debug)]
 pub enum Phase {
+    /// It looks for the lowest limit above the windows.
     FindOrGrow,
+    /// It has passed a window since.
     Apply,
+    /// A sort or merge got the limit, and every later node stays.
+    Ended,
 }
 
 /// What grow knows where it reaches a node.
@@ -15,8 +19,6 @@ pub struct TraverseState {
     pub limit: Option<u64>,
     /// How many rows more the windows since then look at.
     pub lookahead: u64,
-    /// Whether a sort or merge got the limit: the walk has ended, and every later node stays.
-    pub ended: bool,
 }
 
 /// What the walk does at a node.

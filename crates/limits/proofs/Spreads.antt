@@ -9,6 +9,11 @@ use Rattle.limits.specs.Pending.{blank_pending, spread, InRange, Live}
 pub replicate_less : {T : Type 0} (n : ℕ) (x : T) → 0 < n → replicate n x ≡ x ∷ replicate (n - 1) x
 replicate_less n x h = let e : n ≡ suc (n - 1) = omega arith in ap (λ k. replicate k x) e
 
+-- the first entry of a stack that has one, taken off
+pub taken_off : {T : Type 0} (xs ys : List T) (o : Option T) (x d : T) → 0 < length xs → xs ≡ option_to_list o ++ ys → o ≡ first xs → x ≡ unwrap_or o d → xs ≡ x ∷ ys
+taken_off [] ys o x d h e f t = absurd (omega arith)
+taken_off (y ∷ xs) ys o x d h e f t = e ∙ ap (λ p. option_to_list p ++ ys) f ∙ ap (λ z. z ∷ ys) (sym (t ∙ ap (λ p. unwrap_or p d) f))
+
 -- what the top entry says, of a stack that has one
 pub record Popped (before after : List Pending) (top : Pending) : Type 0 where
   pub whole : before ≡ top ∷ after
@@ -17,17 +22,10 @@ pub record Popped (before after : List Pending) (top : Pending) : Type 0 where
   pub live : Live after
 
 pub popped : (before after : List Pending) (o : Option Pending) (top : Pending) → 0 < length before → Live before → before ≡ option_to_list o ++ after → o ≡ first before → top ≡ unwrap_or o blank_pending → Popped before after top
-popped [] after o top h live e f t = absurd (omega arith)
-popped (p ∷ ps) after o top h live e f t =
-    let here : top ≡ p = t ∙ ap (λ x. unwrap_or x blank_pending) f in
-    let both : p ∷ ps ≡ p ∷ after = e ∙ ap (λ x. option_to_list x ++ after) f in
-    let rest : ps ≡ after = cc in
-    record {
-      whole = λ i. sym here i ∷ rest i;
-      shared = subst (λ (q : Pending). 0 < q.subtrees) (sym here) live.0;
-      small = subst (λ (q : Pending). InRange q.requirement) (sym here) live.1;
-      live = subst Live rest live.2;
-    }
+popped before after o top h live e f t =
+    let whole = taken_off before after o top blank_pending h e f t in
+    let now = subst Live whole live in
+    record { whole = whole; shared = now.0; small = now.1; live = now.2 }
 
 -- one subtree less shares the top entry
 pub spread_less : (before after : List Pending) (top : Pending) (n : ℕ) → Popped before after top → n ≡ top.subtrees - 1 → spread before ≡ top.requirement ∷ (replicate n top.requirement ++ spread after)

@@ -1,16 +1,17 @@
 -- What a turn of sink's walk reads off its stacks, and what it leaves. Assumes nothing.
-use Rattle.std.proofs.Common.{◌≡◌, ℕ, ◌+◌, ◌-◌, ◌<◌, ◌≤◌, Bool, true, false, cond, List, ◌∷◌, ◌++◌, length, get_or, drop, replicate, Some, None, Ok, Err, Option, Result, sym, refl, ap, ◌∙◌, subst, arith}
+use Rattle.std.proofs.Common.{◌≡◌, ℕ, ◌+◌, ◌-◌, ◌<◌, ◌≤◌, Bool, true, false, cond, List, [], ◌∷◌, ◌++◌, length, get_or, drop, replicate, Some, None, Ok, Err, Option, unwrap_or, Result, sym, refl, ap, ◌∙◌, subst, arith}
 use Rattle.std.specs.Option.{option_to_list}
-use Rattle.std.proofs.lemmas.List.{append_assoc, length-append, length-replicate}
+use Rattle.std.proofs.lemmas.List.{append_assoc, length-append, length-replicate, length-drop}
 use Rattle.plan.specs.declared.cells.Cell.{Cell}
 use Rattle.plan.specs.declared.refusals.Fault.{Fault}
 use Rattle.plan.specs.declared.refusals.Refusal.TheVariants.{Sum}
 use Rattle.plan.specs.Cells.{blank}
 use Rattle.plan.specs.Refusals.{refused_at, then}
+use Rattle.plan.specs.Stacks.{first}
 use Rattle.operators.specs.Answers.{Answers}
 use Rattle.checks.specs.declared.facts.Fact.{Fact}
-use Rattle.checks.specs.Facts.{head_fact, fact_of, facts, every_fact}
-use Rattle.checks.proofs.Subtrees.{head_every}
+use Rattle.checks.specs.Facts.{blank_fact, head_fact, fact_of, facts, every_fact}
+use Rattle.checks.proofs.Subtrees.{head_every, length_every}
 use Rattle.checks.proofs.Walks.{cells_more}
 use Rattle.rows.specs.Sums.{too_large}
 use Rattle.rows.proofs.Passed.{Trees}
@@ -19,6 +20,7 @@ use Rattle.sinks.specs.Sink.{sunk, sink_sum, sink_sums_from}
 use Rattle.limits.specs.declared.limit_pushdown.Stepped.{Stepped}
 use Rattle.limits.specs.Pending.{InRange, fetch_in_range, stepped}
 use Rattle.limits.specs.Sums.{sum_answer}
+use Rattle.limits.proofs.Spreads.{taken_off}
 use Rattle.limits.proofs.Steps.{cells_of, sunk_more, sums_more, range_stepped, trees_next}
 
 abbrev refusing : Bool → ℕ → Result (Unit {0}) Fault
@@ -32,10 +34,35 @@ granted_by : (b : Bool) (p : ℕ) (s t : Stepped) → then (refusing b p) (λ _.
 granted_by true p s t e = absurd (let z : ◌≡◌ {A = ℕ} 0 1 = cc in omega arith)
 granted_by false p s t e = (refl, cc)
 
--- the cell at a place and those behind it, the requirement and the facts that the turn took off
-module _ (a : Answers) (cells : List Cell) (p : ℕ) (more : p < length cells) (rs qs : List GlobalRequirements) (r : GlobalRequirements) (taken : rs ≡ r ∷ qs)
-    (ks ls : List Fact) (own child : Fact) (known : ks ≡ every_fact a (drop p cells)) (popped : ks ≡ own ∷ ls) (first : child ≡ head_fact ls)
-    (result : Result Stepped Fault) (stepping : result ≡ then (sum_answer p (sink_sum r (get_or cells p blank))) (λ _. Ok (stepped a r (get_or cells p blank) own.partitions child))) where
+head_peeked : (ks : List Fact) → unwrap_or (first ks) blank_fact ≡ head_fact ks
+head_peeked [] = refl
+head_peeked (k ∷ ks) = refl
+
+-- a turn at a place: the requirement and the fact that it takes off, the fact that it reads behind them, and what the step answers
+pub record Turn (a : Answers) (cells : List Cell) (p : ℕ) (rs qs : List GlobalRequirements) (r : GlobalRequirements) (ks ls : List Fact) (own child : Fact) (result : Result Stepped Fault) : Type 0 where
+  pub more : p < length cells
+  pub taken : rs ≡ r ∷ qs
+  pub known : ks ≡ every_fact a (drop p cells)
+  pub popped : ks ≡ own ∷ ls
+  pub first : child ≡ head_fact ls
+  pub stepping : result ≡ then (sum_answer p (sink_sum r (get_or cells p blank))) (λ _. Ok (stepped a r (get_or cells p blank) own.partitions child))
+
+pub turn : (a : Answers) (cells : List Cell) (p : ℕ) (rs qs : List GlobalRequirements) (r : GlobalRequirements) (ks ls : List Fact) (own child : Fact) (result : Result Stepped Fault) (o b : Option Fact)
+    → p < length cells → rs ≡ r ∷ qs → ks ≡ every_fact a (drop p cells)
+    → ks ≡ option_to_list o ++ ls → o ≡ first ks → own ≡ unwrap_or o blank_fact → b ≡ first ls → child ≡ unwrap_or b blank_fact
+    → result ≡ then (sum_answer p (sink_sum r (get_or cells p blank))) (λ _. Ok (stepped a r (get_or cells p blank) own.partitions child))
+    → Turn a cells p rs qs r ks ls own child result
+turn a cells p rs qs r ks ls own child result o b more taken known rest value own_is peeked child_is stepping =
+    let some : 0 < length ks = (let n = ap length known in let m = length_every a (drop p cells) in let l = length-drop p cells in omega arith) in record {
+      more = more;
+      taken = taken;
+      known = known;
+      popped = taken_off ks ls o own blank_fact some rest value own_is;
+      first = child_is ∙ ap (λ x. unwrap_or x blank_fact) peeked ∙ head_peeked ls;
+      stepping = stepping;
+    }
+
+module _ {a : Answers} {cells : List Cell} {p : ℕ} {rs qs : List GlobalRequirements} {r : GlobalRequirements} {ks ls : List Fact} {own child : Fact} {result : Result Stepped Fault} (t : Turn a cells p rs qs r ks ls own child result) where
   abbrev here : Cell
   here = get_or cells p blank
 
@@ -44,7 +71,7 @@ module _ (a : Answers) (cells : List Cell) (p : ℕ) (more : p < length cells) (
 
   whole : own ∷ ls ≡ fact_of a here (facts a behind) ∷ every_fact a behind
   unfolding every_fact facts
-  whole = sym popped ∙ known ∙ ap (every_fact a) (cells_more cells p more)
+  whole = sym t.popped ∙ t.known ∙ ap (every_fact a) (cells_more cells p t.more)
 
   pub rest_known : ls ≡ every_fact a behind
   rest_known = let w = whole in cc
@@ -53,19 +80,19 @@ module _ (a : Answers) (cells : List Cell) (p : ℕ) (more : p < length cells) (
   own_is = let w = whole in cc
 
   child_is : child ≡ head_fact (facts a behind)
-  child_is = first ∙ ap head_fact rest_known ∙ head_every a behind
+  child_is = t.first ∙ ap head_fact rest_known ∙ head_every a behind
 
   abbrev truly : Stepped
   truly = stepped a r here (fact_of a here (facts a behind)).partitions (head_fact (facts a behind))
 
   stepping_truly : result ≡ then (sum_answer p (sink_sum r here)) (λ _. Ok truly)
-  stepping_truly = stepping ∙ (λ i. then (sum_answer p (sink_sum r here)) (λ _. Ok (stepped a r here (own_is i).partitions (child_is i))))
+  stepping_truly = t.stepping ∙ (λ i. then (sum_answer p (sink_sum r here)) (λ _. Ok (stepped a r here (own_is i).partitions (child_is i))))
 
   abbrev rest_sums : Result (Unit {0}) Fault
   rest_sums = sink_sums_from a (replicate here.children truly.next ++ qs) (p + 1) behind
 
   sums_here : sink_sums_from a rs p (drop p cells) ≡ cond (too_large (sink_sum r here)) (refused_at Sum p) rest_sums
-  sums_here = (λ i. sink_sums_from a (taken i) p (cells_more cells p more i)) ∙ sums_more a r qs p here behind
+  sums_here = (λ i. sink_sums_from a (t.taken i) p (cells_more cells p t.more i)) ∙ sums_more a r qs p here behind
 
   pub turn_refused : (f : Fault) → result ≡ Err f → sink_sums_from a rs p (drop p cells) ≡ Err f
   turn_refused f e = sums_here ∙ refused_by (too_large (sink_sum r here)) p truly rest_sums f (sym stepping_truly ∙ e)
@@ -75,11 +102,11 @@ module _ (a : Answers) (cells : List Cell) (p : ℕ) (more : p < length cells) (
     parts = granted_by (too_large (sink_sum r here)) p truly s (sym stepping_truly ∙ ok)
 
     pub turn_range : InRange r → fetch_in_range here.fetch → InRange s.next
-    turn_range h q = subst (λ (t : Stepped). InRange t.next) (sym parts.1) (range_stepped a r here (fact_of a here (facts a behind)).partitions (head_fact (facts a behind)) h q parts.0)
+    turn_range h q = subst (λ (u : Stepped). InRange u.next) (sym parts.1) (range_stepped a r here (fact_of a here (facts a behind)).partitions (head_fact (facts a behind)) h q parts.0)
 
     pub turn_sums : (new : List GlobalRequirements) → new ≡ replicate here.children s.next ++ qs → sink_sums_from a new (p + 1) behind ≡ sink_sums_from a rs p (drop p cells)
     turn_sums new e =
-        ap (λ (ns : List GlobalRequirements). sink_sums_from a ns (p + 1) behind) (e ∙ ap (λ (t : Stepped). replicate here.children t.next ++ qs) parts.1)
+        ap (λ (ns : List GlobalRequirements). sink_sums_from a ns (p + 1) behind) (e ∙ ap (λ (u : Stepped). replicate here.children u.next ++ qs) parts.1)
         ∙ sym (sums_here ∙ ap (λ b. cond b (refused_at Sum p) rest_sums) parts.0)
 
     pub turn_cells : (new : List GlobalRequirements) (before one after : List Cell) → new ≡ replicate here.children s.next ++ qs → one ≡ before ++ option_to_list s.above → after ≡ one ++ option_to_list s.node
@@ -88,14 +115,14 @@ module _ (a : Answers) (cells : List Cell) (p : ℕ) (more : p < length cells) (
         let written : after ≡ before ++ cells_of s = g ∙ ap (λ (cs : List Cell). cs ++ option_to_list s.node) f ∙ append_assoc before (option_to_list s.above) (option_to_list s.node) in
         let tail : cells_of s ++ sunk a new behind ≡ sunk a rs (drop p cells) =
         ap (λ (ns : List GlobalRequirements). cells_of s ++ sunk a ns behind) e
-        ∙ ap (λ (t : Stepped). cells_of t ++ sunk a (replicate here.children t.next ++ qs) behind) parts.1
-        ∙ sym ((λ i. sunk a (taken i) (cells_more cells p more i)) ∙ sunk_more a r qs here behind) in
+        ∙ ap (λ (u : Stepped). cells_of u ++ sunk a (replicate here.children u.next ++ qs) behind) parts.1
+        ∙ sym ((λ i. sunk a (t.taken i) (cells_more cells p t.more i)) ∙ sunk_more a r qs here behind) in
         ap (λ (cs : List Cell). cs ++ sunk a new behind) written ∙ append_assoc before (cells_of s) (sunk a new behind) ∙ ap (λ (cs : List Cell). before ++ cs) tail
 
     pub turn_trees : (new : List GlobalRequirements) → new ≡ replicate here.children s.next ++ qs → Trees (length rs) (drop p cells) → Trees (length new) behind
-    turn_trees new e t =
-        let next = trees_next cells p (length rs) more t in
-        let old = ap length taken in
+    turn_trees new e trees =
+        let next = trees_next cells p (length rs) t.more trees in
+        let old = ap length t.taken in
         let l = ap length e ∙ length-append (replicate here.children s.next) qs in
         let m = length-replicate here.children s.next in
         let low = next.0 in

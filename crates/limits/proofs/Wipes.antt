@@ -1,5 +1,5 @@
 -- Memory that is wiped again. Assumes nothing.
-use Rattle.std.proofs.Common.{◌≡◌, ap, ◌∙◌, replicate}
+use Rattle.std.proofs.Common.{ap, ◌∙◌, replicate}
 use Rattle.plan.specs.Cells.{blank}
 use Rattle.checks.specs.Facts.{blank_fact}
 use Rattle.limits.specs.declared.memory.Memory.{Memory}

@@ -6,10 +6,11 @@ ghost use Rattle.plan.specs.Numbers.{max_number};
 ghost use Rattle.plan.specs.Refusals.{then};
 ghost use Rattle.plan.specs.Stacks.{content};
 ghost use Rattle.checks.specs.Accepts.{Accepted};
-ghost use Rattle.checks.specs.Facts.{head_fact, every_fact};
+ghost use Rattle.checks.specs.Facts.{every_fact};
 ghost use Rattle.rows.specs.Sums.{too_large};
 ghost use Rattle.sinks.specs.Sink.{combined, known_within, past_limit, past_fetch, new_global, new_local, onward, satisfied_to, skipped, gathered, fetched, limited, visited_by, total_of, sink_sum};
 ghost use Rattle.limits.specs.Sums.{sum_answer};
+ghost use Rattle.limits.specs.Written.{written};
 ghost use Rattle.limits.specs.Calls.{rule_answer, front_of};
 ghost use Rattle.limits.specs.declared.rules.Rule.TheVariants.{Sink};
 ghost use Rattle.limits.specs.Pending.{InRange, node_stepped, stepped};
@@ -286,34 +287,27 @@ fn step<O: OperatorSet>(
     visit_node(set, pending, cell, own.partitions, place)
 }
 
-/// Writes a cell, if there is one, behind the first `count` of the work table.
-fn put(work: &mut [Cell], count: usize, cell: Option<Cell>) -> usize
-    requires { count < length work.old }
-    ensures count { result ≡ count + length (option_to_list cell) }
-    ensures cells { take result work.new ≡ take count work.old ++ option_to_list cell }
-{
-    match cell {
-        Some(cell) => {
-            work[count] = cell;
-            count + 1
+/// The cells that are written so far, at the front of a table.
+#[derive(Drop)]
+struct Written<'a> {
+    table: &'a mut [Cell],
+    count: usize,
+}
+
+impl Written<'_> {
+    /// One cell more, if there is one.
+    fn put(&mut self, cell: Option<Cell>)
+        requires { self.old.count < length self.old.table.now }
+        ensures loan { self.new.table.ghost_name ≡ self.old.table.ghost_name }
+        ensures len { length self.new.table.now ≡ length self.old.table.now }
+        ensures count { self.new.count ≡ self.old.count + length (option_to_list cell) }
+        ensures cells { written self.new ≡ written self.old ++ option_to_list cell }
+    {
+        if let Some(cell) = cell {
+            self.table[self.count] = cell;
+            self.count += 1;
         }
-        None => count,
     }
-}
-
-/// Takes the fact of the next subtree off.
-fn next_fact(known: &mut Stack<Fact>) -> Fact
-    requires { 0 < length (content known.old) }
-    ensures { content known.old ≡ result ∷ content known.new }
-{
-    known.pop().unwrap_or(Fact::BLANK)
-}
-
-/// The fact of the subtree behind it, which is its first child's.
-fn first_fact(known: &Stack<Fact>) -> Fact
-    ensures { result ≡ head_fact (content known.now) }
-{
-    known.peek(0).unwrap_or(Fact::BLANK)
 }
 
 /// Writes the sunk plan over the front of the work table. The facts of its cells are on the fact stack.
@@ -333,21 +327,18 @@ pub(super) fn sink_cells<O: OperatorSet>(
     ensures few { IfOk result (λ n. n ≤ 2 * length cells.now) }
 {
     hand_down(pending, GlobalRequirements::FIRST, 1);
-    let mut count = 0;
+    let mut written = Written {
+        table: work,
+        count: 0,
+    };
     for (place, cell) in cells.iter().enumerate() {
         let requirement = next_requirement(pending);
-        let own = next_fact(known);
-        let Stepped { above, node, next } = step(
-            set,
-            requirement,
-            cell,
-            own,
-            first_fact(known),
-            place,
-        )?;
-        count = put(work, count, above);
-        count = put(work, count, node);
+        let own = known.pop().unwrap_or(Fact::BLANK);
+        let child = known.peek(0).unwrap_or(Fact::BLANK);
+        let Stepped { above, node, next } = step(set, requirement, cell, own, child, place)?;
+        written.put(above);
+        written.put(node);
         hand_down(pending, next, cell.children);
     }
-    Ok(count)
+    Ok(written.count)
 }

@@ -17,10 +17,7 @@ use Rattle.checks.specs.Windows.{window_refused, below_after}
 use Rattle.rows.specs.declared.growing.Phase.{Phase}
 use Rattle.rows.specs.declared.growing.Phase.TheVariants.{FindOrGrow, Apply, Ended}
 use Rattle.rows.specs.declared.growing.TraverseState.{TraverseState}
-use Rattle.rows.specs.declared.growing.Turn.{Turn}
-use Rattle.rows.specs.declared.growing.Turn.TheVariants.{Keep, Reset, Find, Grow}
-use Rattle.rows.specs.declared.growing.Turn.TheVariants.{Apply as ApplyHere}
-use Rattle.rows.specs.Grow.{grow_first, finding, ended, finds, applies, lets_through, turn_by, turn, reset_limit, limit_found, past_window, past_apply, grow_next_by, grow_next, smaller_fetch, with_fetch, applied, grown_cell_by, grown, grown_plan}
+use Rattle.rows.specs.Grow.{grow_first, finding, ended, finds, applies, lets_through, turn_by, reset_limit, limit_found, past_window, past_apply, grow_next_by, grow_next, smaller_fetch, with_fetch, applied, grown_cell_by, grown, grown_plan}
 use Rattle.rows.proofs.Agreeing.{map-map, map_same, take_twice, agree_count, agree_join, agree_less, agree_each, agree_rows, agree_cut, agree_limit, concat_one}
 use Rattle.rows.proofs.Base.{kind_one, through_limit, through_some, made_limit, made_joined, made_meant}
 use Rattle.rows.proofs.Passed.{Fit, WindowsPass}

@@ -10,7 +10,6 @@ use Rattle.limits.specs.Calls.{Lent, call_answer, front_of}
 use Rattle.limits.specs.Memory.{lent_by}
 use Rattle.limits.specs.Laws.{count_after, PageKept}
 use Rattle.limits.proofs.Keeping.{call_keeps}
-use Rattle.limits.proofs.Wipes.{wiped_later}
 use Rattle.limits.proofs.calls.call.Goals as goal
 
 counted_front : (work : List Cell) (size other : ℕ) (r : Result ℕ Fault) → size ≡ length work → IfOk r (λ n. (n ≤ size) × (n ≤ other)) → r ≡ counted (front_of work r)

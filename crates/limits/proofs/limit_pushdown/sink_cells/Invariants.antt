@@ -1,9 +1,10 @@
-use Rattle.std.proofs.Common.{◌≡◌, ◌*◌, ◌≤◌, ◌++◌, length, take, drop}
+use Rattle.std.proofs.Common.{◌≡◌, ◌*◌, ◌≤◌, ◌++◌, length, drop}
 use Rattle.plan.specs.Stacks.{content}
 use Rattle.checks.specs.Facts.{every_fact}
 use Rattle.rows.proofs.Passed.{Trees}
 use Rattle.sinks.specs.Sink.{sunk, sunk_plan, sink_sums_from, sink_sums}
 use Rattle.limits.specs.Pending.{spread, Live}
+use Rattle.limits.specs.Written.{written}
 use Rattle.limits.proofs.limit_pushdown.sink_cells.Given as goal
 
 abbrev pub invariant-loop-place : goal.invariant-loop-place
@@ -11,10 +12,14 @@ invariant-loop-place g l =
     let a = g.O.OperatorSet.answers l.set in
     let rs = spread (content l.pending) in
     let rest = drop l.place l.cells in
-    (length l.pending.items.now ≡ length l.initial.pending.items.now)
-    × Live (content l.pending)
-    × Trees (length rs) rest
-    × (content l.known ≡ every_fact a rest)
-    × (l.count ≤ 2 * l.place)
-    × (take l.count l.work ++ sunk a rs rest ≡ sunk_plan a l.cells)
-    × (sink_sums_from a rs l.place rest ≡ sink_sums a l.cells)
+    record {
+      room : length l.pending.items.now ≡ length l.initial.pending.items.now;
+      live : Live (content l.pending);
+      trees : Trees (length rs) rest;
+      known : content l.known ≡ every_fact a rest;
+      loan : l.written.table.ghost_name ≡ l.initial.written.table.ghost_name;
+      len : length l.written.table.now ≡ length l.initial.written.table.now;
+      few : l.written.count ≤ 2 * l.place;
+      cells : written l.written ++ sunk a rs rest ≡ sunk_plan a l.cells;
+      sums : sink_sums_from a rs l.place rest ≡ sink_sums a l.cells;
+    }

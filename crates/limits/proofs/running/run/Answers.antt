@@ -1,4 +1,4 @@
-use Rattle.std.proofs.Common.{◌≡◌, ◌<◌, ◌≤◌, List, length, take, sym, subst, arith}
+use Rattle.std.proofs.Common.{◌<◌, ◌≤◌, List, length, take, sym, subst, arith}
 use Rattle.plan.specs.declared.cells.Cell.{Cell}
 use Rattle.limits.specs.Memory.{lent_by}
 use Rattle.limits.specs.Laws.{PageKept, ran, asked}

@@ -1,11 +1,7 @@
--- Children that are still to come, and how deep cells stand. Assumes nothing.
-use Rattle.std.specs.Prelude.{ℕ, ◌+◌, ◌-◌, cond, List, [], ◌∷◌, reverse, length, vec_items, nat_lt}
+-- Children that are still to come, and how deep cells stand. A list says how many each open node still awaits, the innermost first.
+-- Assumes nothing.
+use Rattle.std.specs.Prelude.{ℕ, ◌+◌, ◌-◌, cond, List, [], ◌∷◌, length, nat_lt}
 use Rattle.plan.specs.declared.cells.Cell.{Cell}
-use Rattle.writing.specs.declared.awaited.Awaited.{Awaited}
-
--- how many children each open node still awaits, the innermost first
-abbrev pub awaiting : Awaited → List ℕ
-awaiting a = reverse (vec_items a.counts)
 
 -- a tree is complete: so is each node that awaited only it, and the next one awaits one child fewer
 abbrev pub after_tree : List ℕ → List ℕ

@@ -1,17 +1,25 @@
-// How many children each open node still awaits, the innermost last.
-ghost use Rattle.std.specs.Prelude.{◌≡◌, [], ◌∷◌, length, OnOk};
-ghost use Rattle.writing.specs.Awaits.{awaiting, after_tree, completes};
+// Which children of open nodes are still to come.
+ghost use Rattle.std.specs.Prelude.{◌≡◌, ℕ, List, [], ◌∷◌, reverse, length, OnOk};
+ghost use Rattle.writing.specs.Awaits.{after_tree, completes};
 
 use std::alloc::{AllocError, Global};
+use std::marker::Model;
 
+/// How many children each open node still awaits. Contracts see the innermost first; it stands last.
 #[derive(Drop)]
-pub struct Awaited {
-    pub counts: Vec<u8>,
+pub(crate) struct Awaited {
+    counts: Vec<u8>,
+}
+
+impl Model for Awaited {
+    ghost Value = { List ℕ };
+
+    ghost view = { λ awaited. reverse awaited.counts.items };
 }
 
 impl Awaited {
     pub(crate) fn new(heap: Global) -> Awaited
-        ensures { awaiting result ≡ [] }
+        ensures { result ≡ [] }
     {
         Awaited {
             counts: Vec::new(heap),
@@ -20,14 +28,14 @@ impl Awaited {
 
     /// How many nodes are open.
     pub(crate) fn depth(&self) -> usize
-        ensures { result ≡ length (awaiting self.now) }
+        ensures { result ≡ length self.now }
     {
         self.counts.len()
     }
 
     /// A node opens that has so many children.
     pub(crate) fn await_children(&mut self, children: u8) -> Result<(), AllocError>
-        ensures { OnOk result (awaiting self.new ≡ children ∷ awaiting self.old) }
+        ensures { OnOk result (self.new ≡ children ∷ self.old) }
     {
         self.counts.push(children)?;
         Ok(())
@@ -35,19 +43,15 @@ impl Awaited {
 
     /// A tree is complete. Gives how many nodes it completes.
     pub(crate) fn complete(&mut self) -> usize
-        ensures after { awaiting self.new ≡ after_tree (awaiting self.old) }
-        ensures value { result ≡ completes (awaiting self.old) }
+        ensures after { self.new ≡ after_tree self.old }
+        ensures value { result ≡ completes self.old }
     {
         let mut completed = 0;
-        while !self.counts.is_empty() {
-            let last = self.counts.len() - 1;
-            let count = self.counts[last];
-            if count > 1 {
-                self.counts[last] = count - 1;
-                return completed;
-            }
-            self.counts.truncate(last);
+        while self.counts.pop_if(|count| *count <= 1).is_some() {
             completed += 1;
+        }
+        if let Some(count) = self.counts.last_mut() {
+            *count -= 1;
         }
         completed
     }

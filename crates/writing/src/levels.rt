@@ -1,6 +1,6 @@
 // How deep the cells of a table stand.
 ghost use Rattle.std.specs.Prelude.{◌≡◌, [], length, IfOk, vec_len, OnOk};
-ghost use Rattle.writing.specs.Awaits.{awaiting, after_cell, depths_from};
+ghost use Rattle.writing.specs.Awaits.{after_cell, depths_from};
 
 use crate::awaited::Awaited;
 use plan::Cell;
@@ -8,7 +8,7 @@ use std::alloc::{AllocError, Global};
 
 // What is awaited behind a cell.
 fn follow(awaited: &mut Awaited, cell: &Cell) -> Result<(), AllocError>
-    ensures { OnOk result (awaiting awaited.new ≡ after_cell cell.now (awaiting awaited.old)) }
+    ensures { OnOk result (awaited.new ≡ after_cell cell.now awaited.old) }
 {
     if cell.children > 0 {
         awaited.await_children(cell.children)?;

@@ -1,124 +1,106 @@
 // Cells written in the notation.
-ghost use Rattle.std.specs.Prelude.{◌≡◌, true, [], ◌++◌, replicate, IfOk, string_bytes, OnOk};
-ghost use Rattle.writing.specs.Written.{fetch_text, enclosed_text, head_text, limits_text, plus_text, node_text, link_text, linked, still_due, written};
-ghost use Rattle.writing.specs.Awaits.{awaiting};
+ghost use Rattle.std.specs.Prelude.{◌≡◌, true, [], ◌++◌, replicate, IfOk, Some, string_bytes, OnOk};
+ghost use Rattle.std.specs.Fmt.{DisplaysOnOk};
+ghost use Rattle.writing.specs.Written.{fetch_text, head_text, limits_text, plus_text, node_text, link_text, linked, still_due, written};
 
 use crate::awaited::Awaited;
-use plan::Cell;
+use plan::{Cell, Kind};
 use std::alloc::{AllocError, Global};
+use std::fmt;
 use text::letter_of;
 
 // A fetch, or `-` for none.
-fn fetch_text(heap: Global, fetch: Option<u64>) -> Result<String, AllocError>
-    ensures { IfOk result (λ s. string_bytes s ≡ fetch_text fetch) }
-{
-    match fetch {
-        Some(n) => n.to_string(heap),
-        None => String::from_str(heap, "-"),
-    }
-}
+#[derive(Clone, Copy)]
+struct Fetch(Option<u64>);
 
-// A number between brackets, if there is one.
-fn enclosed_text(
-    heap: Global,
-    before: &str,
-    number: Option<u64>,
-    after: &str,
-) -> Result<String, AllocError>
-    ensures { IfOk result (λ s. string_bytes s ≡ enclosed_text before.now number after.now) }
-{
-    match number {
-        Some(n) => format!(in heap; "{before}{n}{after}"),
-        None => Ok(String::new(heap)),
-    }
-}
+impl fmt::Display for Fetch {
+    ghost output = { λ fetch. Some (fetch_text fetch.0) };
 
-fn head_text(heap: Global, cell: &Cell) -> Result<String, AllocError>
-    ensures { IfOk result (λ s. string_bytes s ≡ head_text cell.now) }
-{
-    let kind = cell.kind;
-    let parameter = cell.parameter;
-    match letter_of(kind) {
-        None => format!(in heap; "{kind}:{parameter}"),
-        Some(letter) => {
-            if parameter == 0 {
-                return letter.to_string(heap);
-            }
-            format!(in heap; "{letter}{parameter}")
+    fn fmt<W: fmt::Write>(&self, f: &mut fmt::Formatter<W>) -> fmt::Result {
+        match self.0 {
+            Some(fetch) => write!(f, "{fetch}"),
+            None => f.write_str("-"),
         }
     }
-}
-
-fn limits_text(heap: Global, cell: &Cell) -> Result<String, AllocError>
-    ensures { IfOk result (λ s. string_bytes s ≡ limits_text cell.now) }
-{
-    let skip = cell.skip;
-    match cell.kind {
-        2 => {
-            let fetch = fetch_text(heap, cell.fetch)?;
-            format!(in heap; "({skip},{fetch})")
-        }
-        3 => {
-            let fetch = fetch_text(heap, cell.fetch)?;
-            format!(in heap; "({fetch})")
-        }
-        _ => enclosed_text(heap, "[", cell.fetch, "]"),
-    }
-}
-
-fn plus_text(heap: Global, cell: &Cell) -> Result<String, AllocError>
-    ensures { IfOk result (λ s. string_bytes s ≡ plus_text cell.now) }
-{
-    let skip = cell.skip;
-    if cell.kind == 2 || skip == 0 {
-        return Ok(String::new(heap));
-    }
-    format!(in heap; "+{skip}")
 }
 
 // A node without its children.
-fn node_text(heap: Global, cell: &Cell) -> Result<String, AllocError>
-    ensures { IfOk result (λ s. string_bytes s ≡ node_text cell.now) }
-{
-    let head = head_text(heap, cell)?;
-    let limits = limits_text(heap, cell)?;
-    let hint = enclosed_text(heap, "{", cell.hint, "}")?;
-    let plus = plus_text(heap, cell)?;
-    let mark = if cell.mark { "!" } else { "" };
-    format!(in heap; "{head}{limits}{hint}{plus}{mark}")
+#[derive(Clone, Copy)]
+struct Node<'a>(&'a Cell);
+
+impl fmt::Display for Node<'_> {
+    ghost output = { λ node. Some (node_text node.0.now) };
+
+    fn fmt<W: fmt::Write>(&self, f: &mut fmt::Formatter<W>) -> fmt::Result {
+        let cell = self.0;
+        write_head(f, cell)?;
+        write_limits(f, cell)?;
+        if let Some(hint) = cell.hint {
+            write!(f, "{{{hint}}}")?;
+        }
+        write_plus(f, cell)?;
+        if cell.mark {
+            f.write_str("!")?;
+        }
+        Ok(())
+    }
 }
 
-// So many closing parentheses.
-fn write_closing(out: &mut String, count: usize) -> Result<(), AllocError>
-    ensures { OnOk result (string_bytes out.new ≡ string_bytes out.old ++ replicate count 41) }
+// The letter of the kind, and the parameter where it is not 0; both in digits where the kind has no letter.
+fn write_head<W: fmt::Write>(f: &mut fmt::Formatter<W>, cell: &Cell) -> fmt::Result
+    ensures { DisplaysOnOk W.write_str_gives f.old result (Some (head_text cell.now)) f.new }
 {
-    for _i in 0..count {
-        out.push_str(")")?;
+    match (letter_of(cell.kind), cell.parameter) {
+        (Some(letter), 0) => write!(f, "{letter}"),
+        (Some(letter), parameter) => write!(f, "{letter}{parameter}"),
+        (None, parameter) => write!(f, "{}:{parameter}", cell.kind),
     }
-    Ok(())
+}
+
+// `(skip,fetch)` behind G, `(fetch)` behind L, `[fetch]` behind others that have one.
+fn write_limits<W: fmt::Write>(f: &mut fmt::Formatter<W>, cell: &Cell) -> fmt::Result
+    ensures { DisplaysOnOk W.write_str_gives f.old result (Some (limits_text cell.now)) f.new }
+{
+    match (Kind::from(cell.kind), cell.fetch) {
+        (Kind::GlobalLimit, fetch) => write!(f, "({},{})", cell.skip, Fetch(fetch)),
+        (Kind::LocalLimit, fetch) => write!(f, "({})", Fetch(fetch)),
+        (_, Some(fetch)) => write!(f, "[{fetch}]"),
+        (_, None) => Ok(()),
+    }
+}
+
+// The skip of a cell that is no G, where it is not 0.
+fn write_plus<W: fmt::Write>(f: &mut fmt::Formatter<W>, cell: &Cell) -> fmt::Result
+    ensures { DisplaysOnOk W.write_str_gives f.old result (Some (plus_text cell.now)) f.new }
+{
+    match (Kind::from(cell.kind), cell.skip) {
+        (Kind::GlobalLimit, _) | (_, 0) => Ok(()),
+        (_, skip) => write!(f, "+{skip}"),
+    }
 }
 
 // What stands behind a node with so many children. Gives whether a further node is due.
 fn write_link(out: &mut String, awaited: &mut Awaited, children: u8) -> Result<bool, AllocError>
-    ensures text { OnOk result (string_bytes out.new ≡ string_bytes out.old ++ link_text children (awaiting awaited.old)) }
-    ensures after { OnOk result (awaiting awaited.new ≡ linked children (awaiting awaited.old)) }
-    ensures due { IfOk result (λ d. d ≡ still_due children (awaiting awaited.old)) }
+    ensures text { OnOk result (string_bytes out.new ≡ string_bytes out.old ++ link_text children awaited.old) }
+    ensures after { OnOk result (awaited.new ≡ linked children awaited.old) }
+    ensures due { IfOk result (λ d. d ≡ still_due children awaited.old) }
 {
-    if children > 1 {
-        awaited.await_children(children)?;
-        out.push_str("(")?;
-        return Ok(true);
+    match children {
+        0 => {
+            for _ in 0..awaited.complete() {
+                out.push_str(")")?;
+            }
+            if awaited.depth() == 0 {
+                return Ok(false);
+            }
+            out.push_str(", ")?;
+        }
+        1 => out.push_str(" ")?,
+        _ => {
+            awaited.await_children(children)?;
+            out.push_str("(")?;
+        }
     }
-    if children == 1 {
-        out.push_str(" ")?;
-        return Ok(true);
-    }
-    let completed = awaited.complete();
-    write_closing(out, completed)?;
-    if awaited.depth() == 0 {
-        return Ok(false);
-    }
-    out.push_str(", ")?;
     Ok(true)
 }
 
@@ -131,12 +113,11 @@ pub fn write_plan(heap: Global, cells: &[Cell]) -> Result<String, AllocError>
     let mut due = true;
     for cell in cells {
         let gap = if due { "" } else { " | " };
-        out.push_str(gap)?;
-        let node = node_text(heap, cell)?;
-        out.push_str(node.as_str())?;
+        write!(out, "{gap}{}", Node(cell))?;
         due = write_link(&mut out, &mut awaited, cell.children)?;
     }
-    let end = if due { "?" } else { "" };
-    out.push_str(end)?;
+    if due {
+        out.push_str("?")?;
+    }
     Ok(out)
 }

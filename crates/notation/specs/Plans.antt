@@ -1,39 +1,38 @@
 -- How a plan is read from a text: node by node, each with its parent. Assumes nothing.
-use Rattle.std.specs.Prelude.{◌≡◌, ℕ, ◌-◌, cond, ◌||◌, List, [], ◌∷◌, ◌++◌, length, Some, None, Ok, Err, Option, Result, ◌==◌}
+use Rattle.std.specs.Prelude.{◌≡◌, ℕ, ◌-◌, if◌then◌else◌, ◌||◌, List, [], ◌∷◌, ◌++◌, length, Some, None, Ok, Err, Option, ◌==◌}
 use Rattle.plan.specs.declared.cells.Cell.{Cell}
 use Rattle.text.specs.Hex.{is_blank}
-use Rattle.text.specs.declared.problems.Problem.{Problem}
 use Rattle.text.specs.declared.problems.Problem.TheVariants.{Trailing, Unclosed}
-use Rattle.notation.specs.Cursors.{past_blanks}
+use Rattle.notation.specs.Cursors.{Parsed, past_blanks}
 use Rattle.notation.specs.Nodes.{node_at}
 use Rattle.notation.specs.Trees.{child_counted}
 
 -- the parent of the next node, if there is one, and the places of the nodes whose parentheses are open, the innermost first
 abbrev pub Next : Type 0
-Next = Result ((Option ℕ × List ℕ) × List ℕ) Problem
-
--- behind a comma the next tree has the innermost of these parents
-abbrev pub sibling : List ℕ → List ℕ → Next
-sibling [] xs = Err Trailing
-sibling (p ∷ ps) xs = Ok ((Some p, p ∷ ps), xs)
+Next = Parsed (Option ℕ × List ℕ)
 
 -- at the end of the text nothing may be open
 abbrev pub ended : List ℕ → Next
 ended [] = Ok ((None, []), [])
 ended (p ∷ ps) = Err Unclosed
 
--- behind a complete tree: each `)` closes the innermost parenthesis
+-- behind a complete tree: each `)` closes the innermost parenthesis, and behind a comma the next tree has its parent
 abbrev pub close_at : List ℕ → List ℕ → Next
 close_at ps [] = ended ps
-close_at ps (x ∷ xs) =
-    cond (is_blank x) (close_at ps xs)
-    (cond (x == 41) (elim ps [ [] ↦ Err Trailing | p ∷ qs ↦ close_at qs xs ]) (cond (x == 44) (sibling ps xs) (Err Trailing)))
+close_at [] (x ∷ xs) = if is_blank x then close_at [] xs else Err Trailing
+close_at (p ∷ ps) (x ∷ xs) =
+    if is_blank x then close_at (p ∷ ps) xs
+    else if x == 41 then close_at ps xs
+    else if x == 44 then Ok ((Some p, p ∷ ps), xs)
+    else Err Trailing
 
 -- behind a node: `(` opens its children, `,`, `)` and the end complete its tree, and else its one child follows
 abbrev pub next_at : List ℕ → ℕ → List ℕ → Next
 next_at ps last [] = ended ps
 next_at ps last (x ∷ xs) =
-    cond (x == 40) (Ok ((Some last, last ∷ ps), xs)) (cond (x == 44 || x == 41) (close_at ps (x ∷ xs)) (Ok ((Some last, ps), x ∷ xs)))
+    if x == 40 then Ok ((Some last, last ∷ ps), xs)
+    else if x == 44 || x == 41 then close_at ps (x ∷ xs)
+    else Ok ((Some last, ps), x ∷ xs)
 
 -- the cells that were read of a text, the places of the nodes whose parentheses are open, and what is left of the text
 pub data Reached (text : List ℕ) : List Cell → List ℕ → List ℕ → Type 0 where

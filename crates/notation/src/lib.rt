@@ -4,6 +4,5 @@
 mod cursor;
 mod nodes;
 mod plans;
-mod words;
 
 pub use plans::read_plan;

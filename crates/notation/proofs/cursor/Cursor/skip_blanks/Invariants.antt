@@ -1,9 +1,9 @@
-use Rattle.std.proofs.Common.{◌≡◌, ◌-◌, length}
-use Rattle.notation.specs.Cursors.{Onward, rest, past_blanks}
+use Rattle.std.proofs.Common.{◌≡◌, length}
+use Rattle.notation.specs.Cursors.{past_blanks}
 use Rattle.notation.proofs.cursor.Cursor.skip_blanks.Given as goal
 
-abbrev pub invariant-loop-byte : goal.invariant-loop-byte
-invariant-loop-byte l = Onward l.initial.self l.self × (past_blanks (rest l.initial.self) ≡ past_blanks (rest l.self))
+abbrev pub invariant-loop-self : goal.invariant-loop-self
+invariant-loop-self l = past_blanks l.fn.self ≡ past_blanks l.self-inside.rest.now
 
-abbrev pub decreases-loop-byte : goal.decreases-loop-byte
-decreases-loop-byte l = length l.self.text.now - l.self.place
+abbrev pub decreases-loop-self : goal.decreases-loop-self
+decreases-loop-self l = length l.self-inside.rest.now

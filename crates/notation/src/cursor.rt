@@ -7,7 +7,7 @@ use text::{Problem, is_blank};
 
 /// A clause sees the bytes that are left.
 #[derive(Drop)]
-pub struct Cursor<'a> {
+pub(crate) struct Cursor<'a> {
     pub(crate) rest: &'a [u8],
 }
 

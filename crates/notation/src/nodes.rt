@@ -171,7 +171,7 @@ impl Cursor<'_> {
     }
 
     /// A node without its children.
-    pub fn node(&mut self) -> Result<Cell, Problem>
+    pub(crate) fn node(&mut self) -> Result<Cell, Problem>
         ensures { parsed result self.new ≡ node_at self.old }
     {
         let Some((byte, rest)) = self.rest.split_first() else {

@@ -1,5 +1,5 @@
 -- A node that was read fits a packed record, and takes at least one byte. Assumes nothing.
-use Rattle.std.proofs.Common.{◌≡◌, ℕ, zero, suc, ◌+◌, ◌≤◌, ◌⊎◌, Bool, true, false, ◌&&◌, if◌then◌else◌, List, [], ◌∷◌, length, is_some, unwrap_or, IfSome, IfOk, Some, None, Ok, Err, Option, inl, inr, refl, arith, nat_lt}
+use Rattle.std.proofs.Common.{◌≡◌, ℕ, zero, suc, ◌+◌, ◌≤◌, ◌⊎◌, Bool, true, false, ◌&&◌, if◌then◌else◌, List, [], ◌∷◌, length, is_some, IfSome, IfOk, Some, None, Ok, Err, Option, inl, inr, refl, arith, nat_lt}
 use Rattle.std.specs.Char.{is_ascii_digit, is_ascii_alphabetic}
 use Rattle.std.proofs.lemmas.Bool.Decides.{nat_tests}
 use Rattle.plan.specs.Kinds.{kind_of}
@@ -13,7 +13,7 @@ use Rattle.text.specs.declared.problems.Problem.{Problem}
 use Rattle.text.specs.declared.problems.Problem.TheVariants.{NumberTooLarge, ParameterTooLarge, ExpectedClosing, HintBesideSkip, ExpectedLimits, ExpectedComma, KindTooLarge, ExpectedColon, UnknownKind, ExpectedNode}
 use Rattle.notation.specs.declared.nodes.Limits.{Limits}
 use Rattle.notation.specs.Cursors.{begins, digit_at, past_digits, tail, Parsed, ◌>>=◌, number_parsed, due_at}
-use Rattle.notation.specs.Nodes.{amount_at, enclosed_at, bracketed_at, last_limit_at, limits_at, hint_at, own_skip_at, skip_at, suffixes_at, numbered_at, own_parameter_at, lettered_at, node_at}
+use Rattle.notation.specs.Nodes.{amount_at, enclosed_at, bracketed_at, last_limit_at, limits_at, own_skip_at, skip_at, suffixes_at, numbered_at, own_parameter_at, lettered_at, node_at}
 use Rattle.notation.specs.Widths.{Packs}
 
 -- P holds of what was read, and so many bytes are left at most
@@ -46,9 +46,11 @@ Small o = IfSome o (λ n. n ≤ max_number)
 abbrev LimitsFit : Limits → Type 0
 LimitsFit l = Small l.skip × Small l.fetch
 
--- no hint stands beside a skip above 0
-abbrev Apart : Option ℕ → ℕ → Type 0
-Apart hint skip = (hint ≡ None) ⊎ (skip ≡ 0)
+-- a hint beside a skip above 0 is refused
+apart : {A : Type 0} {P : A → Type 0} {n : ℕ} (hint : Option ℕ) (skip : ℕ) (r : Parsed A) → ((hint ≡ None) ⊎ (skip ≡ 0) → Reads P n r) → Reads P n (if is_some hint && nat_lt 0 skip then Err HintBesideSkip else r)
+apart None skip r q = q (inl refl)
+apart (Some o) zero r q = q (inr refl)
+apart (Some o) (suc s) r q = record { read = grind (arith, nat_tests) }
 
 -- a cell fits a packed record, and has no children yet
 pub record IsLeaf (c : Cell) : Type 0 where
@@ -92,30 +94,19 @@ module _ (n : ℕ) where
   limits_reads LocalLimit xs h = behind (due_reads 40 ExpectedLimits xs h) _ (λ _ ys _ h. behind (last_limit_reads ys h) _ (λ _ _ fetch h. done (tt, fetch) h))
   limits_reads _ xs h = behind (bracketed_reads 91 93 xs h) _ (λ _ _ fetch h. done (tt, fetch) h)
 
-  -- a hint beside a skip above 0 is refused
-  apart : {A : Type 0} {Q : A → Type 0} (hint : Option ℕ) (skip : ℕ) (a : A) (xs : List ℕ) → (Apart hint skip → Q a) → length xs ≤ n → Reads Q n (if is_some hint && nat_lt 0 skip then Err HintBesideSkip else Ok (a, xs))
-  apart None skip a xs q h = done (q (inl refl)) h
-  apart (Some o) zero a xs q h = done (q (inr refl)) h
-  apart (Some o) (suc s) a xs q h = record { read = grind (arith, nat_tests) }
+  own_skip_reads : (xs : List ℕ) → length xs ≤ n → Reads (λ s. s ≤ max_number) n (own_skip_at xs)
+  own_skip_reads xs h = let short = tail_short xs in either (begins 43 xs) (amount_reads (tail xs) (omega arith)) (done (omega arith) h)
 
-  hint_reads : (skip : Option ℕ) (xs : List ℕ) → length xs ≤ n → Reads (λ o. Small o × Apart o (unwrap_or skip 0)) n (hint_at skip xs)
-  hint_reads skip xs h = behind (bracketed_reads 123 125 xs h) _ (λ o ys small h. apart o (unwrap_or skip 0) o ys (λ a. (small, a)) h)
-
-  own_skip_reads : (hint : Option ℕ) (xs : List ℕ) → length xs ≤ n → Reads (λ s. (s ≤ max_number) × Apart hint s) n (own_skip_at hint xs)
-  own_skip_reads hint xs h =
-      let short = tail_short xs in
-      either (begins 43 xs) (behind (amount_reads (tail xs) (omega arith)) _ (λ s ys small h. apart hint s s ys (λ a. (small, a)) h)) (done (omega arith, inr refl) h)
-
-  skip_reads : (skip hint : Option ℕ) (xs : List ℕ) → Small skip → Apart hint (unwrap_or skip 0) → length xs ≤ n → Reads (λ s. (s ≤ max_number) × Apart hint s) n (skip_at skip hint xs)
-  skip_reads (Some s) hint xs small a h = done (small, a) h
-  skip_reads None hint xs small a h = own_skip_reads hint xs h
+  skip_reads : (skip : Option ℕ) (xs : List ℕ) → Small skip → length xs ≤ n → Reads (λ s. s ≤ max_number) n (skip_at skip xs)
+  skip_reads (Some s) xs small h = done small h
+  skip_reads None xs small h = own_skip_reads xs h
 
   suffixes_reads : (k p : ℕ) (l : Limits) (xs : List ℕ) → p ≤ max_parameter → LimitsFit l → length xs ≤ n → Reads IsLeaf n (suffixes_at k p l xs)
   suffixes_reads k p l xs low fit h =
-      behind (hint_reads l.skip xs h) _ (λ o ys hint h.
-      behind (skip_reads l.skip o ys fit.0 hint.1 h) _ (λ s zs skip h.
+      behind (bracketed_reads 123 125 xs h) _ (λ o ys hint h.
+      behind (skip_reads l.skip ys fit.0 h) _ (λ s zs skip h.
       let short = tail_short zs in
-      done (record { packs = record { children = omega arith; parameter = low; fetch = fit.1; hint = hint.0; skip = skip.0; apart = skip.1 }; children = refl }) (grind arith)))
+      apart o s _ (λ a. done (record { packs = record { children = omega arith; parameter = low; fetch = fit.1; hint = hint; skip = skip; apart = a }; children = refl }) (grind arith))))
 
   own_parameter_reads : (xs : List ℕ) → length xs ≤ n → Reads (λ p. p ≤ max_parameter) n (own_parameter_at xs)
   own_parameter_reads xs h = either (is_some (digit_at xs)) (number_reads max_parameter ParameterTooLarge xs (omega arith)) (done (omega arith) h)

@@ -1,5 +1,5 @@
 -- How a node is read from a text. Assumes nothing.
-use Rattle.std.specs.Prelude.{ℕ, if◌then◌else◌, ◌&&◌, List, [], ◌∷◌, is_some, unwrap_or, Some, None, Ok, Err, Option, nat_lt}
+use Rattle.std.specs.Prelude.{ℕ, if◌then◌else◌, ◌&&◌, List, [], ◌∷◌, is_some, Some, None, Ok, Err, Option, nat_lt}
 use Rattle.std.specs.Char.{is_ascii_digit, is_ascii_alphabetic}
 use Rattle.plan.specs.Kinds.{kind_of}
 use Rattle.plan.specs.Numbers.{max_number, max_parameter}
@@ -55,31 +55,22 @@ limits_at _ xs = do
   (f, ys) ← bracketed_at 91 93 xs
   Ok (record { skip = None; fetch = f }, ys)
 
--- a hint, if there is one; it cannot stand beside a skip above 0
-abbrev pub hint_at : Option ℕ → List ℕ → Parsed (Option ℕ)
-hint_at skip xs = do
-  (h, ys) ← bracketed_at 123 125 xs
-  if is_some h && nat_lt 0 (unwrap_or skip 0) then Err HintBesideSkip else Ok (h, ys)
-
--- the skip of a node that is no G, if one is written; above 0 it cannot stand beside a hint
-abbrev pub own_skip_at : Option ℕ → List ℕ → Parsed ℕ
-own_skip_at hint xs =
-    if begins 43 xs then (do
-      (n, ys) ← amount_at (tail xs)
-      if is_some hint && nat_lt 0 n then Err HintBesideSkip else Ok (n, ys))
-    else Ok (0, xs)
+-- the skip of a node that is no G, 0 if none is written
+abbrev pub own_skip_at : List ℕ → Parsed ℕ
+own_skip_at xs = if begins 43 xs then amount_at (tail xs) else Ok (0, xs)
 
 -- the skip of a node: the one that was read before, or else its own
-abbrev pub skip_at : Option ℕ → Option ℕ → List ℕ → Parsed ℕ
-skip_at (Some s) hint xs = Ok (s, xs)
-skip_at None hint xs = own_skip_at hint xs
+abbrev pub skip_at : Option ℕ → List ℕ → Parsed ℕ
+skip_at (Some s) xs = Ok (s, xs)
+skip_at None xs = own_skip_at xs
 
--- hint, skip and mark, behind the rest of a node
+-- hint, skip and mark, behind the rest of a node; a hint cannot stand beside a skip above 0
 abbrev pub suffixes_at : ℕ → ℕ → Limits → List ℕ → Parsed Cell
 suffixes_at k p l xs = do
-  (h, ys) ← hint_at l.skip xs
-  (s, zs) ← skip_at l.skip h ys
-  Ok (record { kind = k; children = 0; parameter = p; mark = begins 33 zs; fetch = l.fetch; hint = h; skip = s }, if begins 33 zs then tail zs else zs)
+  (h, ys) ← bracketed_at 123 125 xs
+  (s, zs) ← skip_at l.skip ys
+  if is_some h && nat_lt 0 s then Err HintBesideSkip
+      else Ok (record { kind = k; children = 0; parameter = p; mark = begins 33 zs; fetch = l.fetch; hint = h; skip = s }, if begins 33 zs then tail zs else zs)
 
 -- a node by its kind in digits
 abbrev pub numbered_at : List ℕ → Parsed Cell

@@ -1,7 +1,7 @@
 // One node of a plan, read from a place on: `H4`, `20:4`, `G(2,5)!`, `A0{5}`.
 ghost use Rattle.std.specs.Prelude.{◌≡◌};
 ghost use Rattle.notation.specs.Cursors.{parsed};
-ghost use Rattle.notation.specs.Nodes.{amount_at, parameter_at, enclosed_at, bracketed_at, last_limit_at, limits_at, hint_at, own_skip_at, suffixes_at, numbered_at, own_parameter_at, lettered_at, node_at};
+ghost use Rattle.notation.specs.Nodes.{amount_at, parameter_at, enclosed_at, bracketed_at, last_limit_at, limits_at, own_skip_at, suffixes_at, numbered_at, own_parameter_at, lettered_at, node_at};
 
 use crate::cursor::Cursor;
 use plan::{Cell, Kind, MAX_NUMBER, MAX_PARAMETER};
@@ -90,44 +90,35 @@ impl Cursor<'_> {
         }
     }
 
-    // A hint, if there is one. It cannot stand beside a skip above 0.
-    fn hint(&mut self, skip: Option<u64>) -> Result<Option<u64>, Problem>
-        ensures { parsed result self.new ≡ hint_at skip self.old }
+    // The skip of a node that is no G, 0 if none is written.
+    fn own_skip(&mut self) -> Result<u64, Problem>
+        ensures { parsed result self.new ≡ own_skip_at self.old }
     {
-        let start = self.rest;
-        let hint = self.bracketed(b'{', b'}')?;
-        if hint.is_some() && skip.unwrap_or(0) > 0 {
-            self.rest = start;
-            return Err(Problem::HintBesideSkip);
+        if self.take(b'+') {
+            self.amount()
+        } else {
+            Ok(0)
         }
-        Ok(hint)
     }
 
-    // The skip of a node that is no G, if one is written. It cannot stand beside a hint.
-    fn own_skip(&mut self, hint: Option<u64>) -> Result<u64, Problem>
-        ensures { parsed result self.new ≡ own_skip_at hint self.old }
-    {
-        let start = self.rest;
-        if !self.take(b'+') {
-            return Ok(0);
-        }
-        let skip = self.amount()?;
-        if hint.is_some() && skip > 0 {
-            self.rest = start;
-            return Err(Problem::HintBesideSkip);
-        }
-        Ok(skip)
-    }
-
-    // Hint, skip and mark, behind the rest of a node.
+    // Hint, skip and mark, behind the rest of a node. A hint and a skip above 0 cannot stand on one node.
     fn suffixes(&mut self, kind: u8, parameter: u32, limits: Limits) -> Result<Cell, Problem>
         ensures { parsed result self.new ≡ suffixes_at kind parameter limits self.old }
     {
-        let hint = self.hint(limits.skip)?;
+        // The later of the two, which the problem is about.
+        let mut later = self.rest;
+        let hint = self.bracketed(b'{', b'}')?;
         let skip = match limits.skip {
             Some(skip) => skip,
-            None => self.own_skip(hint)?,
+            None => {
+                later = self.rest;
+                self.own_skip()?
+            }
         };
+        if hint.is_some() && skip > 0 {
+            self.rest = later;
+            return Err(Problem::HintBesideSkip);
+        }
         let mark = self.take(b'!');
         Ok(Cell {
             kind,

@@ -37,11 +37,9 @@ impl WindowExpr {
     fn reaches(self) -> bool
         ensures { result ≡ reaches self }
     {
-        match (self.units, self.effect, self.end_bound) {
-            (FrameUnits::Other, _, _) | (_, _, FrameBound::Other) => false,
-            (_, LimitEffect::None | LimitEffect::Relative(_), _) => true,
-            (_, LimitEffect::Unknown | LimitEffect::Absolute(_), _) => false,
-        }
+        self.units == FrameUnits::Rows
+            && matches!(self.effect, LimitEffect::None | LimitEffect::Relative(_))
+            && self.end_bound != FrameBound::Other
     }
 }
 

@@ -1,164 +1,146 @@
 // A cell as a line of text: the operator's name, and what is to be said of it.
-ghost use Rattle.std.specs.Prelude.{◌≡◌, IfOk, Some, string_bytes};
-ghost use Rattle.std.specs.Option.{option_map};
-ghost use Rattle.explain.specs.Lines.{name_of, named, parameter_label, shows_parameter, parameter_text, skip_text, fetch_text, hint_text, mark_text, listed, details, limit_details, line_of};
+ghost use Rattle.std.specs.Prelude.{◌≡◌, IfOk, Some, codes, string_bytes};
+ghost use Rattle.std.specs.Fmt.{DisplaysOnOk};
+ghost use Rattle.explain.specs.Details.{detail_text, details_text, said};
+ghost use Rattle.explain.specs.Lines.{name_of, named, parameter_text, skip_text, fetch_text, line_of};
 
-use plan::Cell;
+use operators::CatalogueSet;
+use plan::{Cell, Kind};
 use std::alloc::{AllocError, Global};
+use std::fmt;
 
-const GLOBAL_LIMIT: u8 = 2;
-
-const LOCAL_LIMIT: u8 = 3;
-
-const SORT: u8 = 7;
-
-fn name_of(kind: u8) -> Option<&'static str>
-    ensures { option_map (λ x. x.now) result ≡ name_of kind }
-{
-    match kind {
-        0 => Some("EmptyExec"),
-        1 => Some("PlaceholderRowExec"),
-        2 => Some("GlobalLimitExec"),
-        3 => Some("LocalLimitExec"),
-        4 => Some("ProjectionExec"),
-        5 => Some("CoalescePartitionsExec"),
-        6 => Some("SortPreservingMergeExec"),
-        7 => Some("SortExec"),
-        8 => Some("BoundedWindowAggExec"),
-        9 => Some("AggregateExec"),
-        16 => Some("DataSourceExec"),
-        17 => Some("FilterExec"),
-        18 => Some("UnionExec"),
-        20 => Some("RepartitionExec"),
-        _ => None,
-    }
+// What is said of an operator besides its name.
+#[derive(Clone, Copy)]
+enum Detail {
+    Window(u32),
+    Aggregate(u32),
+    Partitions(u32),
+    Parameter(u32),
+    Skip(u64),
+    NoFetch,
+    Fetch(u64),
+    TopK(u64),
+    Hint(u64),
+    Ordered,
 }
 
-fn name_text(heap: Global, kind: u8) -> Result<String, AllocError>
-    ensures { IfOk result (λ s. string_bytes s ≡ named (name_of kind) kind) }
-{
-    match name_of(kind) {
-        Some(name) => String::from_str(heap, name),
-        None => format!(in heap; "OperatorExec(kind={kind})"),
-    }
-}
+impl fmt::Display for Detail {
+    ghost output = { λ detail. Some (detail_text detail) };
 
-fn parameter_label(kind: u8) -> &'static str
-    ensures { result.now ≡ parameter_label kind }
-{
-    match kind {
-        8 => "window=",
-        9 => "aggregate=",
-        16 | 20 => "partitions=",
-        _ => "parameter=",
-    }
-}
-
-// Whether a parameter has a meaning of its own, so that 0 is shown too.
-fn shows_parameter(kind: u8) -> bool
-    ensures { result ≡ shows_parameter kind }
-{
-    matches!(kind, 8 | 9 | 16 | 20)
-}
-
-fn parameter_text(heap: Global, cell: &Cell) -> Result<String, AllocError>
-    ensures { IfOk result (λ s. string_bytes s ≡ parameter_text cell.now) }
-{
-    let parameter = cell.parameter;
-    if parameter == 0 && !shows_parameter(cell.kind) {
-        return Ok(String::new(heap));
-    }
-    let label = parameter_label(cell.kind);
-    format!(in heap; "{label}{parameter}")
-}
-
-fn skip_text(heap: Global, cell: &Cell) -> Result<String, AllocError>
-    ensures { IfOk result (λ s. string_bytes s ≡ skip_text cell.now) }
-{
-    let skip = cell.skip;
-    if skip == 0 && cell.kind != GLOBAL_LIMIT {
-        return Ok(String::new(heap));
-    }
-    format!(in heap; "skip={skip}")
-}
-
-fn some_fetch(heap: Global, fetch: u64, kind: u8) -> Result<String, AllocError>
-    ensures { IfOk result (λ s. string_bytes s ≡ fetch_text (Some fetch) kind) }
-{
-    if kind == SORT {
-        return format!(in heap; "TopK(fetch={fetch})");
-    }
-    format!(in heap; "fetch={fetch}")
-}
-
-fn fetch_text(heap: Global, fetch: Option<u64>, kind: u8) -> Result<String, AllocError>
-    ensures { IfOk result (λ s. string_bytes s ≡ fetch_text fetch kind) }
-{
-    match fetch {
-        Some(n) => some_fetch(heap, n, kind),
-        None => {
-            let none = if kind == GLOBAL_LIMIT || kind == LOCAL_LIMIT {
-                "fetch=None"
-            } else {
-                ""
-            };
-            String::from_str(heap, none)
+    fn fmt<W: fmt::Write>(&self, f: &mut fmt::Formatter<W>) -> fmt::Result {
+        match *self {
+            Detail::Window(number) => write!(f, "window={number}"),
+            Detail::Aggregate(number) => write!(f, "aggregate={number}"),
+            Detail::Partitions(count) => write!(f, "partitions={count}"),
+            Detail::Parameter(number) => write!(f, "parameter={number}"),
+            Detail::Skip(skip) => write!(f, "skip={skip}"),
+            Detail::NoFetch => f.write_str("fetch=None"),
+            Detail::Fetch(fetch) => write!(f, "fetch={fetch}"),
+            Detail::TopK(fetch) => write!(f, "TopK(fetch={fetch})"),
+            Detail::Hint(hint) => write!(f, "lim=[{hint}]"),
+            Detail::Ordered => f.write_str("ordered"),
         }
     }
 }
 
-fn hint_text(heap: Global, hint: Option<u64>) -> Result<String, AllocError>
-    ensures { IfOk result (λ s. string_bytes s ≡ hint_text hint) }
+// The parameter, where it is not 0 or its operator always shows it.
+fn parameter(cell: &Cell) -> Option<Detail>
+    ensures { said result ≡ parameter_text cell.now }
 {
-    match hint {
-        Some(n) => format!(in heap; "lim=[{n}]"),
-        None => Ok(String::new(heap)),
+    let number = cell.parameter;
+    match Kind::from(cell.kind) {
+        Kind::BoundedWindowAgg => Some(Detail::Window(number)),
+        Kind::Aggregate => Some(Detail::Aggregate(number)),
+        Kind::Operator(CatalogueSet::SCAN | CatalogueSet::REPARTITION) => {
+            Some(Detail::Partitions(number))
+        }
+        _ => (number != 0).then_some(Detail::Parameter(number)),
     }
 }
 
-// Two texts with a comma between, if neither is empty.
-fn list(heap: Global, first: &str, second: &str) -> Result<String, AllocError>
-    ensures { IfOk result (λ s. string_bytes s ≡ listed first.now second.now) }
+// On a global limit also where it is 0.
+fn skip(cell: &Cell) -> Option<Detail>
+    ensures { said result ≡ skip_text cell.now }
 {
-    if first.is_empty() {
-        return String::from_str(heap, second);
-    }
-    if second.is_empty() {
-        return String::from_str(heap, first);
-    }
-    format!(in heap; "{first}, {second}")
+    let is_shown = cell.skip != 0 || Kind::from(cell.kind) == Kind::GlobalLimit;
+    is_shown.then_some(Detail::Skip(cell.skip))
 }
 
-// What is to be said of a cell behind its skip.
-fn limit_details(heap: Global, cell: &Cell) -> Result<String, AllocError>
-    ensures { IfOk result (λ s. string_bytes s ≡ limit_details cell.now) }
+// On a limit also where there is none.
+fn fetch(cell: &Cell) -> Option<Detail>
+    ensures { said result ≡ fetch_text cell.now.fetch cell.now.kind }
 {
-    let mark = if cell.mark { "ordered" } else { "" };
-    let hint = hint_text(heap, cell.hint)?;
-    let last = list(heap, hint.as_str(), mark)?;
-    let fetch = fetch_text(heap, cell.fetch, cell.kind)?;
-    list(heap, fetch.as_str(), last.as_str())
+    match (cell.fetch, Kind::from(cell.kind)) {
+        (Some(fetch), Kind::Sort) => Some(Detail::TopK(fetch)),
+        (Some(fetch), _) => Some(Detail::Fetch(fetch)),
+        (None, Kind::GlobalLimit | Kind::LocalLimit) => Some(Detail::NoFetch),
+        (None, _) => None,
+    }
 }
 
-// What is to be said of a cell besides its name.
-fn details(heap: Global, cell: &Cell) -> Result<String, AllocError>
-    ensures { IfOk result (λ s. string_bytes s ≡ details cell.now) }
+fn write_name<W: fmt::Write>(f: &mut fmt::Formatter<W>, kind: u8) -> fmt::Result
+    ensures { DisplaysOnOk W.write_str_gives f.old result (Some (named (name_of kind) kind)) f.new }
 {
-    let limits = limit_details(heap, cell)?;
-    let skip = skip_text(heap, cell)?;
-    let last = list(heap, skip.as_str(), limits.as_str())?;
-    let parameter = parameter_text(heap, cell)?;
-    list(heap, parameter.as_str(), last.as_str())
+    let name = match Kind::from(kind) {
+        Kind::Empty => "EmptyExec",
+        Kind::PlaceholderRow => "PlaceholderRowExec",
+        Kind::GlobalLimit => "GlobalLimitExec",
+        Kind::LocalLimit => "LocalLimitExec",
+        Kind::Projection => "ProjectionExec",
+        Kind::CoalescePartitions => "CoalescePartitionsExec",
+        Kind::SortPreservingMerge => "SortPreservingMergeExec",
+        Kind::Sort => "SortExec",
+        Kind::BoundedWindowAgg => "BoundedWindowAggExec",
+        Kind::Aggregate => "AggregateExec",
+        Kind::Operator(CatalogueSet::SCAN) => "DataSourceExec",
+        Kind::Operator(CatalogueSet::FILTER) => "FilterExec",
+        Kind::Operator(CatalogueSet::UNION) => "UnionExec",
+        Kind::Operator(CatalogueSet::REPARTITION) => "RepartitionExec",
+        Kind::Reserved(_) | Kind::Operator(_) => return write!(f, "OperatorExec(kind={kind})"),
+    };
+    f.write_str(name)
+}
+
+// The details that there are: a colon before the first, a comma before each other.
+fn write_details<W: fmt::Write>(
+    f: &mut fmt::Formatter<W>,
+    details: &[Option<Detail>],
+) -> fmt::Result
+    ensures { DisplaysOnOk W.write_str_gives f.old result (Some (details_text (codes ": ") details.now)) f.new }
+{
+    let mut gap = ": ";
+    for detail in details {
+        let Some(detail) = detail else { continue };
+        write!(f, "{gap}{detail}")?;
+        gap = ", ";
+    }
+    Ok(())
+}
+
+// A cell, without its children.
+#[derive(Clone, Copy)]
+struct Line<'a>(&'a Cell);
+
+impl fmt::Display for Line<'_> {
+    ghost output = { λ line. Some (line_of line.0.now) };
+
+    fn fmt<W: fmt::Write>(&self, f: &mut fmt::Formatter<W>) -> fmt::Result {
+        let cell = self.0;
+        write_name(f, cell.kind)?;
+        let details = [
+            parameter(cell),
+            skip(cell),
+            fetch(cell),
+            cell.hint.map(Detail::Hint),
+            cell.mark.then_some(Detail::Ordered),
+        ];
+        write_details(f, &details)
+    }
 }
 
 /// The cell as a line of DataFusion's EXPLAIN, without its children: `GlobalLimitExec: skip=2, fetch=5`.
 pub fn describe(heap: Global, cell: &Cell) -> Result<String, AllocError>
     ensures { IfOk result (λ s. string_bytes s ≡ line_of cell.now) }
 {
-    let name = name_text(heap, cell.kind)?;
-    let said = details(heap, cell)?;
-    if said.is_empty() {
-        return Ok(name);
-    }
-    format!(in heap; "{name}: {said}")
+    Line(cell).to_string(heap)
 }

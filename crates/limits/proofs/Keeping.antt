@@ -29,7 +29,7 @@ use Rattle.limits.specs.Laws.{count_after, PageKept, Asked, ran}
 -- what went on behind a `?` that granted
 pub granted_then : {A B : Type 0} (r : Result A Fault) (f : A → Result B Fault) (y : B) → then r f ≡ Ok y → (x : A) × (r ≡ Ok x) × (f x ≡ Ok y)
 granted_then (Ok x) f y e = (x, refl, e)
-granted_then (Err g) f y e = absurd (let z : ◌≡◌ {A = ℕ} 0 1 = cc in omega arith)
+granted_then (Err g) f y e = absurd cc
 
 pub unpacked_ok : (x y : List Cell) → ◌≡◌ {A = Result (List Cell) Fault} (Ok x) (Ok y) → x ≡ y
 unpacked_ok x y e = cc

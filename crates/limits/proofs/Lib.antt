@@ -1,6 +1,5 @@
 pub mod Keeping
 mod Runs
-mod Spreads
 mod Steps
 mod Turns
 mod Wipes

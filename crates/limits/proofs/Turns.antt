@@ -20,7 +20,6 @@ use Rattle.sinks.specs.Sink.{sunk, sink_sum, sink_sums_from}
 use Rattle.limits.specs.declared.limit_pushdown.Stepped.{Stepped}
 use Rattle.limits.specs.Pending.{InRange, fetch_in_range, stepped}
 use Rattle.limits.specs.Sums.{sum_answer}
-use Rattle.limits.proofs.Spreads.{taken_off}
 use Rattle.limits.proofs.Steps.{cells_of, sunk_more, sums_more, range_stepped, trees_next}
 
 abbrev refusing : Bool → ℕ → Result (Unit {0}) Fault
@@ -28,11 +27,16 @@ refusing b p = cond b (refused_at Sum p) (Ok tt)
 
 refused_by : (b : Bool) (p : ℕ) (s : Stepped) (rest : Result (Unit {0}) Fault) (f : Fault) → then (refusing b p) (λ _. Ok s) ≡ Err f → cond b (refused_at Sum p) rest ≡ Err f
 refused_by true p s rest f e = let is : ◌≡◌ {A = Fault} (record { refusal = Sum; place = p }) f = cc in ap Err is
-refused_by false p s rest f e = absurd (let z : ◌≡◌ {A = ℕ} 0 1 = cc in omega arith)
+refused_by false p s rest f e = absurd cc
 
 granted_by : (b : Bool) (p : ℕ) (s t : Stepped) → then (refusing b p) (λ _. Ok s) ≡ Ok t → (b ≡ false) × (t ≡ s)
-granted_by true p s t e = absurd (let z : ◌≡◌ {A = ℕ} 0 1 = cc in omega arith)
+granted_by true p s t e = absurd cc
 granted_by false p s t e = (refl, cc)
+
+-- the first entry of a stack that has one, taken off
+taken_off : {T : Type 0} (xs ys : List T) (o : Option T) (x d : T) → 0 < length xs → xs ≡ option_to_list o ++ ys → o ≡ first xs → x ≡ unwrap_or o d → xs ≡ x ∷ ys
+taken_off [] ys o x d h e f t = absurd (omega arith)
+taken_off (y ∷ xs) ys o x d h e f t = e ∙ ap (λ p. option_to_list p ++ ys) f ∙ ap (λ z. z ∷ ys) (sym (t ∙ ap (λ p. unwrap_or p d) f))
 
 head_peeked : (ks : List Fact) → unwrap_or (first ks) blank_fact ≡ head_fact ks
 head_peeked [] = refl

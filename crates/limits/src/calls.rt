@@ -75,8 +75,8 @@ fn write_back(plan: &mut [Cell], work: &[Cell], answer: Result<usize, Fault>)
     ensures { plan.new ≡ laid blank (front_of work.now answer) plan.old }
 {
     if let Ok(count) = answer {
-        plan.fill(Cell::BLANK);
         plan[0..count].copy_from_slice(&work[0..count]);
+        plan[count..].fill(Cell::BLANK);
     }
 }
 

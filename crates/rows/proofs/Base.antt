@@ -46,7 +46,7 @@ pub through_some : (a : Answers) (m : Meaning) → Rules a m → (k p n : ℕ) �
 through_some a m rules k p zero fit t = go (ltb k first_operator) refl
   where
     go : (b : Bool) → ltb k first_operator ≡ b → 0 < zero
-    go true low = absurd (let z : ◌≡◌ {A = ℕ} 0 1 = grind (arith, nat_tests) in omega arith)
+    go true low = absurd (grind (arith, nat_tests))
     go false high = absurd (false≢true (sym (passing_at a m rules k p high t).has_children ∙ fit))
 through_some a m rules k p (suc n) fit t = omega arith
 

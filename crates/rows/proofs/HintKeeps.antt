@@ -41,7 +41,7 @@ fields_placed a (c ∷ cs) h = ((fields_fetch a c h.0, on_aggregate c h.0), fiel
     on_aggregate c h = grind (arith, nat_tests)
 
 hinted_nine : (c : Cell) (o : Option ℕ) (h : ℕ) → o ≡ Some h → (not (is_some o) || eqb c.kind aggregate) ≡ true → c.kind ≡ aggregate
-hinted_nine c None h e k = absurd (let z : ◌≡◌ {A = ℕ} 0 1 = cc in omega arith)
+hinted_nine c None h e k = absurd cc
 hinted_nine c (Some n) h e k = eqb-true c.kind aggregate k
 
 module _ (a : Answers) (m : Meaning) (rules : Rules a m) where
@@ -155,7 +155,7 @@ module _ (a : Answers) (m : Meaning) (rules : Rules a m) where
   -- an aggregate takes no fetch
   cutless_nine : (c : Cell) (f : Option ℕ) → c.kind ≡ aggregate → (not (is_some f) || takes_fetch a c.kind c.parameter) ≡ true → f ≡ None
   cutless_nine c None k h = refl
-  cutless_nine c (Some f) k h = absurd (let z : ◌≡◌ {A = ℕ} 0 1 = grind (arith, nat_tests) in omega arith)
+  cutless_nine c (Some f) k h = absurd (grind (arith, nat_tests))
 
   node_told : (c : Cell) (cs : List Cell) (u : Option Cell) (n : ℕ) (o : Option ℕ) → c.hint ≡ o → Trees (n - 1 + c.children) cs → fit_cell a c ≡ true → Placed a c → hint_cell a u c o ≡ true → Hints a (Some c) cs → (ws : List Partitions) → Told cs ws (rows m cs) → Made c ws (rows m cs)
   node_told c [] u n None e tree fit placed h hs ws k = same_made c ws (rows m []) e k
@@ -227,7 +227,7 @@ module _ (a : Answers) where
       let o : aggregate_bears a u u.hint c.parameter g ≡ true = subst (λ b. (b || aggregate_bears a u u.hint c.parameter g) ≡ true) (limit_not_nine u g u.fetch k) both.1 in
       let e = chain_group u c g u.hint o in
       let plain = both.0 in
-      absurd (let z : ◌≡◌ {A = ℕ} 0 1 = grind (arith, nat_tests) in omega arith)
+      absurd (grind (arith, nat_tests))
 
   borne_by : (h : ℕ) (g : Option ℕ) (u v : Option Cell) (c : Cell) (b : Bool) → takes_hint a g c ≡ b → BeforeBy h g u v → Placed a c → hint_cell a u c c.hint ≡ true → hint_cell a v (cond b (with_hint c (Some h)) c) (cond b (with_hint c (Some h)) c).hint ≡ true
   borne_by h None u v c true go k placed fit =
@@ -248,12 +248,12 @@ module _ (a : Answers) where
   borne_now (Some h) u v c k placed fit = borne_by h.hint h.group u v c (takes_hint a h.group c) refl k placed fit
 
   limit_stays_by : (c : Cell) (h : ℕ) (b : Bool) (g : Option ℕ) → takes_hint a g c ≡ b → is_limit c.kind ≡ true → cond b (with_hint c (Some h)) c ≡ c
-  limit_stays_by c h true g e lim = absurd (let z : ◌≡◌ {A = ℕ} 0 1 = grind (arith, nat_tests) in omega arith)
-  limit_stays_by c h false g e lim = refl
+  limit_stays_by c h true g e limit = absurd (grind (arith, nat_tests))
+  limit_stays_by c h false g e limit = refl
 
   limit_stays : (s : Option Handed) (c : Cell) → is_limit c.kind ≡ true → hinted_cell a s c ≡ c
-  limit_stays None c lim = refl
-  limit_stays (Some h) c lim = limit_stays_by c h.hint (takes_hint a h.group c) h.group refl lim
+  limit_stays None c limit = refl
+  limit_stays (Some h) c limit = limit_stays_by c h.hint (takes_hint a h.group c) h.group refl limit
 
   chain_before_by : (c : Cell) (h : ℕ) (g : Option ℕ) (b : Bool) → takes_hint a g c ≡ b → Before (cond b (Some (record { hint = h; group = Some (a.group c.parameter) })) None) (Some c) (Some (cond b (with_hint c (Some h)) c))
   chain_before_by c h g true e = (c, refl, refl, grind (arith, nat_tests), refl)

@@ -20,12 +20,12 @@ Answer = Result (Unit {0}) Fault
 
 -- where a refusal stands in a test, the test failed
 pub refused_not : {A : Type 0} (b : Bool) (r : Refusal) (at : ℕ) (rest : Result A Fault) (x : A) → cond b (refused_at r at) rest ≡ Ok x → (b ≡ false) × (rest ≡ Ok x)
-refused_not true r at rest x e = absurd (let z : ◌≡◌ {A = ℕ} 0 1 = cc in omega arith)
+refused_not true r at rest x e = absurd cc
 refused_not false r at rest x e = (refl, e)
 
 refused_else : (b : Bool) (r : Refusal) (at : ℕ) (rest : Answer) → cond b rest (refused_at r at) ≡ Ok tt → (b ≡ true) × (rest ≡ Ok tt)
 refused_else true r at rest e = (refl, e)
-refused_else false r at rest e = absurd (let z : ◌≡◌ {A = ℕ} 0 1 = cc in omega arith)
+refused_else false r at rest e = absurd cc
 
 -- the cells are so many trees, one after another
 abbrev pub Trees : ℕ → List Cell → Type 0

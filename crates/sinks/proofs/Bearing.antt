@@ -59,7 +59,7 @@ module _ (a : Answers) where
 
   nine_fetchless : (c : Cell) (f : Option ℕ) → c.kind ≡ aggregate → (not (is_some f) || takes_fetch a c.kind c.parameter) ≡ true → f ≡ None
   nine_fetchless c None e h = refl
-  nine_fetchless c (Some f) e h = absurd (let z : ◌≡◌ {A = ℕ} 0 1 = grind (arith, nat_tests) in omega arith)
+  nine_fetchless c (Some f) e h = absurd (grind (arith, nat_tests))
 
   nine_unknown : (c : Cell) (below : List Fact) → c.kind ≡ aggregate → (fact_of a c below).rows ≡ Unknown
   nine_unknown c below e =
@@ -87,10 +87,10 @@ module _ (a : Answers) where
     hinted_put (inl k) None eg = go (ltb 0 r.skip && not r.satisfied) refl
       where
         go : (b : Bool) → (ltb 0 r.skip && not r.satisfied) ≡ b → Hints a u (put (skipped_by b r c) rest)
-        go true e = absurd (let either = k.1 in let z : ◌≡◌ {A = ℕ} 0 1 = grind (arith, nat_tests) in omega arith)
+        go true e = absurd (let either = k.1 in grind (arith, nat_tests))
         go false e = (borne u k.2, tail)
-    hinted_put (inl k) (Some n) eg = absurd (let x = k.0 in let z : ◌≡◌ {A = ℕ} 0 1 = cc in omega arith)
-    hinted_put (inr k) None eg = absurd (let x = k.1.1 in let z : ◌≡◌ {A = ℕ} 0 1 = cc in omega arith)
+    hinted_put (inl k) (Some n) eg = absurd (let x = k.0 in cc)
+    hinted_put (inr k) None eg = absurd (let x = k.1.1 in cc)
     hinted_put (inr k) (Some n) eg =
         subst (λ b. Hints a u (option_to_list (only_if (not b) L) ++ c ∷ rest)) (sym (k.0 unknown))
         (ap (hint_cell a u L) (limit_hintless X r n), (borne (Some L) (limit_bears_over X r c.parameter n h (λ e. grind (arith, nat_tests)) need), tail))
@@ -156,7 +156,7 @@ module _ (a : Answers) where
 
       hintless : (p h : ℕ) (o : Option ℕ) → c.hint ≡ o → aggregate_bears a c o p h ≡ false
       hintless p h None e = refl
-      hintless p h (Some g) e = absurd (let nine = hint_nine a c (Some g) e refl fields in let z : ◌≡◌ {A = ℕ} 0 1 = grind (arith, nat_tests) in omega arith)
+      hintless p h (Some g) e = absurd (let nine = hint_nine a c (Some g) e refl fields in grind (arith, nat_tests))
 
       unmet : (k : KnownRows) (F : Option ℕ) (b : Bool) → k ≡ Unknown → (b && known_within k F) ≡ false
       unmet k F b e = ap (λ z. b && known_within z F) e ∙ none_met F b

@@ -220,12 +220,12 @@ own_unmet : (r : GlobalRequirements) (f : Option ℕ) → Ready r → ltb 0 r.sk
 own_unmet r None ready e = go r.satisfied refl
   where
     go : (b : Bool) → r.satisfied ≡ b → r.satisfied ≡ false
-    go true eb = absurd (let z : r.skip ≡ 0 = ready eb in let y : ◌≡◌ {A = ℕ} 0 1 = grind (arith, nat_tests) in omega arith)
+    go true eb = absurd (let z : r.skip ≡ 0 = ready eb in grind (arith, nat_tests))
     go false eb = eb
 own_unmet r (Some f) ready e = go r.satisfied refl
   where
     go : (b : Bool) → r.satisfied ≡ b → (r.satisfied || eqb r.skip 0) ≡ false
-    go true eb = absurd (let z : r.skip ≡ 0 = ready eb in let y : ◌≡◌ {A = ℕ} 0 1 = grind (arith, nat_tests) in omega arith)
+    go true eb = absurd (let z : r.skip ≡ 0 = ready eb in grind (arith, nat_tests))
     go false eb = grind (arith, nat_tests)
 
 -- another fetch or mark changes nothing of what is made
@@ -479,7 +479,7 @@ module _ (a : Answers) (m : Meaning) (rules : Rules a m) where
 
     fetchless : (g : Option ℕ) → (not (is_some g) || takes_fetch a c.kind c.parameter) ≡ true → takes_fetch a c.kind c.parameter ≡ false → g ≡ None
     fetchless None h e = refl
-    fetchless (Some g) h e = absurd (let z : ◌≡◌ {A = ℕ} 0 1 = grind (arith, nat_tests) in omega arith)
+    fetchless (Some g) h e = absurd (grind (arith, nat_tests))
 
     -- a node that limits pass takes no fetch
     passing_fetchless : passes_limits a c.kind c.parameter ≡ true → combines_partitions c.kind ≡ false → takes_fetch a c.kind c.parameter ≡ false

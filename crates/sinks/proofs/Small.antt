@@ -145,7 +145,7 @@ module _ (a : Answers) (r : GlobalRequirements) (c : Cell) (P : ℕ) (taken : ta
 
   fetchless : (f : Option ℕ) → c.fetch ≡ f → takes_fetch a c.kind c.parameter ≡ false → f ≡ None
   fetchless None e h = refl
-  fetchless (Some n) e h = absurd (let some : is_some c.fetch ≡ true = ap is_some e in let z : ◌≡◌ {A = ℕ} 0 1 = grind (arith, nat_tests) in omega arith)
+  fetchless (Some n) e h = absurd (let some : is_some c.fetch ≡ true = ap is_some e in grind (arith, nat_tests))
 
   skipped_fine : (b : Bool) → c.fetch ≡ None → is_some (skipped_by b own c).above ≡ true → Fine (skipped_by b own c)
   skipped_fine true e some = fetchless_sum (satisfied_to own None) refl e

@@ -39,9 +39,9 @@ own_fetch r (Some f) = refl
 -- with nothing pending after it, there is none, and nothing was pending before
 pub none_both : (s : ℕ) (f g : Option ℕ) → combined_fetch s f g ≡ None → (f ≡ None) × (g ≡ None)
 none_both s None None e = (refl, refl)
-none_both s None (Some g) e = absurd (let z : ◌≡◌ {A = ℕ} 0 1 = cc in omega arith)
-none_both s (Some f) None e = absurd (let z : ◌≡◌ {A = ℕ} 0 1 = cc in omega arith)
-none_both s (Some f) (Some g) e = absurd (let z : ◌≡◌ {A = ℕ} 0 1 = cc in omega arith)
+none_both s None (Some g) e = absurd cc
+none_both s (Some f) None e = absurd cc
+none_both s (Some f) (Some g) e = absurd cc
 
 module _ (a : Answers) (partitions : ℕ) where
   -- the same node, and the same goes on
@@ -56,7 +56,7 @@ module _ (a : Answers) (partitions : ℕ) where
   module _ (r : GlobalRequirements) (c : Cell) where
     skipped_steady : (b : Bool) → c.fetch ≡ None → is_some (skipped_by b r c).above ≡ true → Steady (skipped_by b r c)
     skipped_steady true e some = let next = satisfied_to r None in ap (λ f. let own = past_fetch next f in visited_by a own c partitions own.fetch) e
-    skipped_steady false e some = absurd (let z : ◌≡◌ {A = ℕ} 0 1 = grind (arith, nat_tests) in omega arith)
+    skipped_steady false e some = absurd (grind (arith, nat_tests))
 
     gathered_steady : (n : ℕ) → combines_partitions c.kind ≡ true → Steady (gathered r c n)
     gathered_steady n e =
@@ -95,7 +95,7 @@ module _ (a : Answers) (partitions : ℕ) where
 
     fetching_steady : (n : ℕ) (x t y : Bool) → combines_partitions c.kind ≡ x → passes_limits a c.kind c.parameter ≡ t → takes_fetch a c.kind c.parameter ≡ y → is_some (fetching_by x t y a r c partitions n).above ≡ true → Steady (fetching_by x t y a r c partitions n)
     fetching_steady n true t y e1 e2 e3 some = gathered_steady n e1
-    fetching_steady n false true y e1 e2 e3 some = absurd (let z : ◌≡◌ {A = ℕ} 0 1 = grind (arith, nat_tests) in omega arith)
+    fetching_steady n false true y e1 e2 e3 some = absurd (grind (arith, nat_tests))
     fetching_steady n false false true e1 e2 e3 some = fetched_steady n e1 e2 e3
     fetching_steady n false false false e1 e2 e3 some = limited_steady n e1 e2 e3
 

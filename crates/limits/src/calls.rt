@@ -80,7 +80,9 @@ fn write_back(plan: &mut [Cell], work: &[Cell], answer: Result<usize, Fault>)
     }
 }
 
-/// One call of a rule. Granted, the plan table holds what the rule's steps give and blank cells behind it, and the answer is the new node count; refused, it
+/// One call of a rule.
+///
+/// Granted, the plan table holds what the rule's steps give and blank cells behind it, and the answer is the new node count; refused, it
 /// is untouched. The lent memory is blank afterwards. Whatever the operators mean and store, as long as they keep the rules, each
 /// partition of the root has the same rows in the same order, and an accepted plan stays accepted, with as many partitions.
 pub fn call<O: OperatorSet>(
@@ -99,11 +101,7 @@ pub fn call<O: OperatorSet>(
     answer
 }
 
-/// Limits go down a plan as far as they can. A granted call may give more nodes than a later call takes.
-///
-/// Granted, the plan table holds what the rule's steps give and blank cells behind it, and the answer is the new node count; refused, it
-/// is untouched. The lent memory is blank afterwards. Whatever the operators mean and store, as long as they keep the rules, each
-/// partition of the root has the same rows in the same order, and an accepted plan stays accepted, with as many partitions.
+/// Limits go down a plan as far as they can: a `call` of `Rule::Sink`. A granted one may give more nodes than a later call takes.
 pub fn sink<O: OperatorSet>(
     set: &O,
     plan: &mut [Cell],
@@ -116,11 +114,7 @@ pub fn sink<O: OperatorSet>(
     call(Rule::Sink, set, plan, count, memory)
 }
 
-/// A limit goes past windows, grown by what they look ahead, to a sort or merge below them.
-///
-/// Granted, the plan table holds what the rule's steps give and blank cells behind it, and the answer is the new node count; refused, it
-/// is untouched. The lent memory is blank afterwards. Whatever the operators mean and store, as long as they keep the rules, each
-/// partition of the root has the same rows in the same order, and an accepted plan stays accepted, with as many partitions.
+/// A limit goes past windows, grown by what they look ahead, to a sort or merge below them: a `call` of `Rule::Grow`.
 pub fn grow<O: OperatorSet>(
     set: &O,
     plan: &mut [Cell],
@@ -133,11 +127,7 @@ pub fn grow<O: OperatorSet>(
     call(Rule::Grow, set, plan, count, memory)
 }
 
-/// A limit becomes a hint on the distinct aggregates right below it.
-///
-/// Granted, the plan table holds what the rule's steps give and blank cells behind it, and the answer is the new node count; refused, it
-/// is untouched. The lent memory is blank afterwards. Whatever the operators mean and store, as long as they keep the rules, each
-/// partition of the root has the same rows in the same order, and an accepted plan stays accepted, with as many partitions.
+/// A limit becomes a hint on the distinct aggregates right below it: a `call` of `Rule::Hint`.
 pub fn hint<O: OperatorSet>(
     set: &O,
     plan: &mut [Cell],

@@ -40,10 +40,10 @@ fn combine_limit(
     requires { skip + inner_skip < 2 ^ 64 }
     ensures { result ≡ combined skip fetch inner_skip inner_fetch }
 {
-    let least = match (fetch, inner_fetch) {
-        (Some(outer), Some(inner)) => Some(outer.min(inner.saturating_sub(skip))),
-        (None, Some(inner)) => Some(inner.saturating_sub(skip)),
-        (outer, None) => outer,
+    let left = inner_fetch.map(|inner| inner.saturating_sub(skip));
+    let least = match (fetch, left) {
+        (Some(outer), Some(inner)) => Some(outer.min(inner)),
+        _ => fetch.or(left),
     };
     (skip + inner_skip, least)
 }
@@ -85,7 +85,7 @@ fn past_fetch(pending: GlobalRequirements, own: Option<u64>) -> GlobalRequiremen
         skip,
         fetch,
         satisfied: pending.satisfied || pending.skip == 0,
-        preserve_order: pending.preserve_order,
+        ..pending
     }
 }
 

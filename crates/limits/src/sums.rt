@@ -10,8 +10,7 @@ use plan::{Fault, MAX_NUMBER, Refusal};
 pub(super) fn sum_at(place: usize, a: u64, b: u64) -> Result<u64, Fault>
     ensures { result ≡ (if nat_lt max_number (a + b) then refused_at Sum place else Ok (a + b)) }
 {
-    match a.checked_add(b) {
-        Some(sum) if sum <= MAX_NUMBER => Ok(sum),
-        _ => Err(Refusal::Sum.at(place)),
-    }
+    a.checked_add(b)
+        .filter(|sum| *sum <= MAX_NUMBER)
+        .ok_or(Refusal::Sum.at(place))
 }

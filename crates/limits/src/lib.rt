@@ -10,6 +10,8 @@ mod pending;
 mod rules;
 mod running;
 mod sums;
+#[cfg(test)]
+mod tests;
 mod worked;
 
 pub use calls::{call, grow, hint, sink};

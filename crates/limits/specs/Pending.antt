@@ -1,5 +1,5 @@
 -- What the requirement stack holds: requirements, each with how many subtrees still share it. Assumes nothing.
-use Rattle.std.specs.Prelude.{ℕ, ◌<◌, ◌≤◌, Bool, true, false, List, [], ◌∷◌, ◌++◌, replicate, Some, None, Option}
+use Rattle.std.specs.Prelude.{ℕ, ◌<◌, ◌≤◌, Bool, true, false, List, [], ◌∷◌, ◌++◌, replicate, IfSome, Some, None, Option}
 use Rattle.plan.specs.declared.cells.Cell.{Cell}
 use Rattle.plan.specs.Kinds.{is_limit}
 use Rattle.plan.specs.Numbers.{max_number}
@@ -22,8 +22,7 @@ spread (p ∷ ps) = replicate p.subtrees p.requirement ++ spread ps
 
 -- a fetch is not too large
 abbrev pub fetch_in_range : Option ℕ → Type 0
-fetch_in_range None = Unit {0}
-fetch_in_range (Some n) = n ≤ max_number
+fetch_in_range fetch = IfSome fetch (λ n. n ≤ max_number)
 
 -- the numbers of a requirement are not too large
 abbrev pub InRange : GlobalRequirements → Type 0

@@ -1,7 +1,8 @@
 -- Worked plans: what the rules leave of them under the catalogue set. Assumes nothing.
-use Rattle.std.specs.Prelude.{◌≡◌, ℕ, false, List, [], ◌∷◌, Some, None, Ok, Option}
+use Rattle.std.specs.Prelude.{◌≡◌, ℕ, List, [], ◌∷◌, Some, None, Ok, Option}
 use Rattle.std.specs.List.{AllByRecursion}
 use Rattle.plan.specs.declared.cells.Cell.{Cell}
+use Rattle.plan.specs.Cells.{node}
 use Rattle.operators.specs.Catalogue.{catalogue}
 use Rattle.limits.specs.declared.rules.Rule.{Rule}
 use Rattle.limits.specs.declared.rules.Rule.TheVariants.{Sink, Grow, Hint}
@@ -9,7 +10,7 @@ use Rattle.limits.specs.Calls.{rule_answer}
 
 -- an unmarked cell: kind, children, parameter, fetch, hint, skip
 abbrev pub cell : ℕ → ℕ → ℕ → Option ℕ → Option ℕ → ℕ → Cell
-cell k n p f h s = record { kind = k; children = n; parameter = p; mark = false; fetch = f; hint = h; skip = s }
+cell k n p f h s = record (node k n p) { fetch = f; hint = h; skip = s }
 
 -- a global limit of a skip and a fetch
 abbrev pub G : ℕ → Option ℕ → Cell

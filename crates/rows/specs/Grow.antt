@@ -79,7 +79,7 @@ turn a s c =
 
 -- another limit, or none, and no look-ahead
 abbrev pub reset_limit : TraverseState → Option ℕ → TraverseState
-reset_limit s limit = record { phase = s.phase; limit = limit; lookahead = 0 }
+reset_limit s limit = record s { limit = limit; lookahead = 0 }
 
 -- skip plus fetch, or absent
 abbrev pub limit_found : ℕ → Option ℕ → Option ℕ
@@ -93,7 +93,7 @@ grown_lookahead s reach = max s.lookahead reach.following + reach.relative
 -- below a window: applying from now on, without a reach with no limit
 abbrev pub past_window : TraverseState → Option Reach → TraverseState
 past_window s None = record { phase = Apply; limit = None; lookahead = 0 }
-past_window s (Some reach) = record { phase = Apply; limit = s.limit; lookahead = grown_lookahead s reach }
+past_window s (Some reach) = record s { phase = Apply; lookahead = grown_lookahead s reach }
 
 -- below a sort or merge: with no limit reset, else the walk has ended
 abbrev pub past_apply : TraverseState → Option ℕ → TraverseState
@@ -119,7 +119,7 @@ smaller_fetch (Some own) n = min own n
 
 -- the cell with another fetch
 abbrev pub with_fetch : Cell → Option ℕ → Cell
-with_fetch c fetch = record { kind = c.kind; children = c.children; parameter = c.parameter; mark = c.mark; fetch = fetch; hint = c.hint; skip = c.skip }
+with_fetch c fetch = record c { fetch = fetch }
 
 -- a sort or merge: its fetch becomes limit plus look-ahead, or stays if smaller
 abbrev pub applied : TraverseState → Option ℕ → Cell → Cell

@@ -21,7 +21,7 @@ takes_hint a above c = c.kind == aggregate && a.plain_distinct c.parameter && sh
 
 -- the cell with another hint
 abbrev pub with_hint : Cell → Option ℕ → Cell
-with_hint c hint = record { kind = c.kind; children = c.children; parameter = c.parameter; mark = c.mark; fetch = c.fetch; hint = hint; skip = c.skip }
+with_hint c hint = record c { hint = hint }
 
 -- the node itself: it takes the hint that is handed down, if one is
 abbrev pub hinted_cell : Answers → Option Handed → Cell → Cell

@@ -4,6 +4,7 @@ use Rattle.std.specs.Option.{option_to_list}
 use Rattle.plan.specs.declared.cells.Cell.{Cell}
 use Rattle.plan.specs.declared.refusals.Fault.{Fault}
 use Rattle.plan.specs.declared.refusals.Refusal.TheVariants.{Sum}
+use Rattle.plan.specs.Cells.{node}
 use Rattle.plan.specs.Kinds.{global_limit, local_limit, coalesce_partitions, sort_preserving_merge, is_limit}
 use Rattle.plan.specs.Refusals.{refused_at}
 use Rattle.operators.specs.Answers.{Answers}
@@ -54,15 +55,15 @@ abbrev pub past_fetch : GlobalRequirements → Option ℕ → GlobalRequirements
 past_fetch r None = r
 past_fetch r (Some f) =
     let both = combined r.skip r.fetch 0 (Some f) in
-    record { skip = both.0; fetch = both.1; satisfied = r.satisfied || (r.skip == 0); preserve_order = r.preserve_order }
+    record r { skip = both.0; fetch = both.1; satisfied = r.satisfied || (r.skip == 0) }
 
 -- a new limit of kind 2, which has no mark
 abbrev pub new_global : ℕ → Option ℕ → Cell
-new_global skip fetch = record { kind = global_limit; children = 1; parameter = 0; mark = false; fetch = fetch; hint = None; skip = skip }
+new_global skip fetch = record (node global_limit 1 0) { fetch = fetch; skip = skip }
 
 -- a new limit of kind 3, which has no mark
 abbrev pub new_local : ℕ → Cell
-new_local fetch = record { kind = local_limit; children = 1; parameter = 0; mark = false; fetch = Some fetch; hint = None; skip = 0 }
+new_local fetch = record (node local_limit 1 0) { fetch = Some fetch }
 
 -- a limit goes above only if it has to
 abbrev pub only_if : Bool → Cell → Option Cell
@@ -71,15 +72,15 @@ only_if false limit = None
 
 -- a node with another mark
 abbrev pub with_mark : Cell → Bool → Cell
-with_mark c mark = record { kind = c.kind; children = c.children; parameter = c.parameter; mark = mark; fetch = c.fetch; hint = c.hint; skip = c.skip }
+with_mark c mark = record c { mark = mark }
 
 -- what is pending goes on down, but once it is satisfied nothing is skipped any more
 abbrev pub onward : GlobalRequirements → GlobalRequirements
-onward r = record { skip = cond r.satisfied 0 r.skip; fetch = r.fetch; satisfied = r.satisfied; preserve_order = r.preserve_order }
+onward r = record r { skip = cond r.satisfied 0 r.skip }
 
 -- all is satisfied, and below only so many rows are wanted
 abbrev pub satisfied_to : GlobalRequirements → Option ℕ → GlobalRequirements
-satisfied_to r fetch = record { skip = 0; fetch = fetch; satisfied = true; preserve_order = r.preserve_order }
+satisfied_to r fetch = record r { skip = 0; fetch = fetch; satisfied = true }
 
 -- the node stays
 abbrev pub stayed : GlobalRequirements → Cell → Visited

@@ -137,7 +137,6 @@ pub(super) fn grow_cells<O: OperatorSet>(
     walk_cells(set, cells, work)
 }
 
-#[tactic(auto, using(checks::proofs::Walks::cells_more, crate::proofs::Writes::written_more), unfolding(rows::specs::Grow::grown, rows::specs::Grow::grow_sums_from))]
 fn walk_cells<O: OperatorSet>(set: &O, cells: &[Cell], work: &mut [Cell]) -> Result<usize, Fault>
     requires { length cells.now ≤ length work.old }
     ensures answer { front_of work.new result ≡ then (grow_sums (O.OperatorSet.answers set.now) cells.now) (λ _. Ok (grown_plan (O.OperatorSet.answers set.now) cells.now)) }

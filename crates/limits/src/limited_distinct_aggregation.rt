@@ -66,7 +66,6 @@ fn hand_down(sum: Option<u64>, on: Option<Handed>) -> Option<Handed>
 }
 
 /// Writes the hinted plan over the front of the work table.
-#[tactic(auto, using(checks::proofs::Walks::cells_more, crate::proofs::Writes::written_more), unfolding(rows::specs::Hint::hinted, rows::specs::Hint::hint_sums_from))]
 pub(super) fn hint_cells<O: OperatorSet>(
     set: &O,
     cells: &[Cell],

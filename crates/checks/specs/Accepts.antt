@@ -2,13 +2,12 @@
 use Rattle.std.specs.Prelude.{◌≡◌, ℕ, true, cond, ◌||◌, List, length, take, is_ok, Ok, Result, ◌==◌, nat_lt}
 use Rattle.plan.specs.declared.cells.Cell.{Cell}
 use Rattle.plan.specs.declared.refusals.Fault.{Fault}
-use Rattle.plan.specs.declared.refusals.Refusal.TheVariants.{Count, Room}
+use Rattle.plan.specs.declared.refusals.Refusal.TheVariants.{Count, Room, Fit, Fields, Hints}
 use Rattle.plan.specs.Numbers.{max_nodes}
 use Rattle.plan.specs.Refusals.{refused_at, then}
 use Rattle.operators.specs.Answers.{Answers}
-use Rattle.checks.specs.declared.single.Single.TheVariants.{OfFit, OfFields, OfHints}
 use Rattle.checks.specs.Tree.{tree_of}
-use Rattle.checks.specs.Cells.{singly}
+use Rattle.checks.specs.Cells.{fit_cell, fields_cell, hint_cell, singly}
 use Rattle.checks.specs.Facts.{head_fact, facts, counted_from}
 
 -- the count is 0, above 4,096 or above the number of the table's cells
@@ -26,7 +25,12 @@ root_partitions a cells = (head_fact (facts a cells)).partitions
 -- tree, fit, fields, partitions, hints: the first refusal, or the root's partition count
 abbrev pub plan_answer : Answers → List Cell → Result ℕ Fault
 plan_answer a cells =
-    then (tree_of cells) (λ _. then (singly a OfFit cells) (λ _. then (singly a OfFields cells) (λ _. then (counted_from a 0 cells) (λ _. then (singly a OfHints cells) (λ _. Ok (root_partitions a cells))))))
+    then (tree_of cells)
+    (λ _. then (singly (λ _. fit_cell a) Fit cells)
+    (λ _. then (singly (λ _. fields_cell a) Fields cells)
+    (λ _. then (counted_from a 0 cells)
+    (λ _. then (singly (λ before c. hint_cell a before c c.hint) Hints cells)
+    (λ _. Ok (root_partitions a cells))))))
 
 -- a plan is accepted if none of these refuses it
 abbrev pub Accepted : Answers → List Cell → Type 0

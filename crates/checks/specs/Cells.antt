@@ -1,16 +1,16 @@
 -- Checks of single cells, each with the cell before it. Assumes nothing.
-use Rattle.std.specs.Prelude.{ℕ, ◌+◌, Bool, true, false, cond, not, ◌&&◌, ◌||◌, List, [], ◌∷◌, is_some, Some, None, Ok, Option, Result, ◌==◌, nat_le}
+use Rattle.std.specs.Prelude.{◌≡◌, ℕ, ◌+◌, Bool, true, false, cond, not, ◌&&◌, ◌||◌, List, [], ◌∷◌, is_some, Some, None, Ok, Option, Result, ◌==◌, nat_le}
+use Rattle.std.specs.Option.{option_copied}
+use Rattle.std.specs.Fn.{Shared}
+use denote.Ref.{Bor}
 use Rattle.plan.specs.declared.cells.Cell.{Cell}
 use Rattle.plan.specs.declared.refusals.Fault.{Fault}
 use Rattle.plan.specs.declared.refusals.Refusal.{Refusal}
-use Rattle.plan.specs.declared.refusals.Refusal.TheVariants.{Fit, Fields, Hints}
 use Rattle.plan.specs.Kinds.{global_limit, local_limit, aggregate, is_limit}
 use Rattle.plan.specs.Numbers.{max_number}
 use Rattle.plan.specs.Refusals.{refused_at}
 use Rattle.operators.specs.Answers.{Answers}
 use Rattle.operators.specs.Questions.{fits_of, takes_fetch, takes_mark}
-use Rattle.checks.specs.declared.single.Single.{Single}
-use Rattle.checks.specs.declared.single.Single.TheVariants.{OfFit, OfFields, OfHints}
 
 -- kind, parameter and child count fit
 abbrev pub fit_cell : Answers → Cell → Bool
@@ -61,23 +61,15 @@ abbrev pub hint_cell : Answers → Option Cell → Cell → Option ℕ → Bool
 hint_cell a before c None = true
 hint_cell a before c (Some h) = a.plain_distinct c.parameter && borne_out a before c.parameter h
 
--- whether a cell passes a check, with the cell before it
-abbrev pub passes_check : Answers → Single → Option Cell → Cell → Bool
-passes_check a OfFit before c = fit_cell a c
-passes_check a OfFields before c = fields_cell a c
-passes_check a OfHints before c = hint_cell a before c c.hint
+-- a closure computes this test of a cell, with the cell before it
+abbrev pub Computes : {F : Type 0} → Shared F (Option (Bor Cell) × (Bor Cell × Unit {0})) Bool → F → (Option Cell → Cell → Bool) → Type 0
+Computes g f test = (before : Option (Bor Cell)) (cell : Bor Cell) (r : Bool) → g.post f (before, (cell, tt)) r → r ≡ test (option_copied before) cell.now
 
--- what a check that looks at single cells refuses with
-abbrev pub refusal_of : Single → Refusal
-refusal_of OfFit = Fit
-refusal_of OfFields = Fields
-refusal_of OfHints = Hints
-
--- the first cell that does not pass is refused, at its place
-abbrev pub singly_from : Answers → Single → Option Cell → ℕ → List Cell → Result (Unit {0}) Fault
-singly_from a s before at [] = Ok tt
-singly_from a s before at (c ∷ cs) = cond (passes_check a s before c) (singly_from a s (Some c) (at + 1) cs) (refused_at (refusal_of s) at)
+-- the first cell that does not pass a test, with the cell before it, is refused, at its place
+abbrev pub singly_from : (Option Cell → Cell → Bool) → Refusal → Option Cell → ℕ → List Cell → Result (Unit {0}) Fault
+singly_from test r before at [] = Ok tt
+singly_from test r before at (c ∷ cs) = cond (test before c) (singly_from test r (Some c) (at + 1) cs) (refused_at r at)
 
 -- one such check over the whole plan
-abbrev pub singly : Answers → Single → List Cell → Result (Unit {0}) Fault
-singly a s cells = singly_from a s None 0 cells
+abbrev pub singly : (Option Cell → Cell → Bool) → Refusal → List Cell → Result (Unit {0}) Fault
+singly test r cells = singly_from test r None 0 cells

@@ -1,5 +1,6 @@
 -- The check on windows that grow makes. Assumes nothing.
 use Rattle.std.specs.Prelude.{ℕ, ◌+◌, ◌-◌, Bool, true, false, cond, ◌&&◌, ◌||◌, List, [], ◌∷◌, Ok, Result, ◌==◌, nat_lt}
+use Rattle.std.specs.List.{list_any}
 use Rattle.plan.specs.declared.cells.Cell.{Cell}
 use Rattle.plan.specs.declared.refusals.Fault.{Fault}
 use Rattle.plan.specs.declared.refusals.Refusal.TheVariants.{Windows}
@@ -18,18 +19,13 @@ is_absolute Unknown = false
 is_absolute (Relative n) = false
 is_absolute (Absolute n) = true
 
--- an expression has an absolute effect
-abbrev pub any_absolute : List WindowExpr → Bool
-any_absolute [] = false
-any_absolute (e ∷ es) = is_absolute e.effect || any_absolute es
-
 -- the window has a reach, and it is above 0
 abbrev pub looks_ahead : List WindowExpr → Bool
 looks_ahead es = all_reach es && nat_lt 0 (following_of es + relative_of es)
 
--- a window is absolute, or looks ahead where one above it does, which so many subtrees still to come stand below
+-- a window has an absolute expression, or looks ahead where one above it does, which so many subtrees still to come stand below
 abbrev pub window_refused : Answers → ℕ → Cell → Bool
-window_refused a below c = c.kind == bounded_window_agg && (any_absolute (a.window c.parameter) || nat_lt 0 below && looks_ahead (a.window c.parameter))
+window_refused a below c = c.kind == bounded_window_agg && (list_any (λ e. is_absolute e.effect) (a.window c.parameter) || nat_lt 0 below && looks_ahead (a.window c.parameter))
 
 -- how many subtrees still to come stand below a window that looks ahead, behind this cell
 abbrev pub below_after : Answers → ℕ → Cell → ℕ

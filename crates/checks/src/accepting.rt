@@ -6,10 +6,10 @@ ghost use Rattle.checks.specs.Facts.{blank_fact, every_fact};
 ghost use Rattle.checks.specs.Accepts.{count_answer, room_answer, plan_answer, check_answer};
 
 use super::Fact;
-use super::facts::{check_partitions, fact_at};
+use super::facts::{check_partitions, put_facts};
 use super::shapes::check_tree;
-use super::single::{Single, check_cells};
-use operators::OperatorSet;
+use super::single::{check_cells, fields_fit, hint_fits};
+use operators::{OperatorSet, fits};
 use plan::{Cell, Fault, MAX_NODES, Refusal, Stack};
 
 /// The count is refused where it is 0, above 4,096 or above the number of the table's cells.
@@ -17,10 +17,7 @@ pub fn check_count(table: usize, count: usize) -> Result<(), Fault>
     ensures { result ≡ count_answer table count }
 {
     if count == 0 || count > MAX_NODES || table < count {
-        return Err(Fault {
-            refusal: Refusal::Count,
-            place: 0,
-        });
+        return Err(Refusal::Count.at(0));
     }
     Ok(())
 }
@@ -30,15 +27,13 @@ pub fn check_room(entries: usize, wanted: usize) -> Result<(), Fault>
     ensures { result ≡ room_answer entries wanted }
 {
     if entries < wanted {
-        return Err(Fault {
-            refusal: Refusal::Room,
-            place: 0,
-        });
+        return Err(Refusal::Room.at(0));
     }
     Ok(())
 }
 
 /// The checks of a plan: tree, fit, fields, partitions, hints. Accepted, its facts are on the stack.
+#[tactic(auto, using(crate::proofs::Subtrees::head_every))]
 fn check_plan<O: OperatorSet>(
     set: &O,
     cells: &[Cell],
@@ -52,11 +47,16 @@ fn check_plan<O: OperatorSet>(
     ensures facts { is_ok result ≡ true → content known.new ≡ every_fact (O.OperatorSet.answers set.now) cells.now }
 {
     check_tree(cells)?;
-    check_cells(set, Single::OfFit, cells)?;
-    check_cells(set, Single::OfFields, cells)?;
-    check_partitions(set, cells, known)?;
-    check_cells(set, Single::OfHints, cells)?;
-    Ok(fact_at(known, 0).partitions)
+    check_cells(cells, Refusal::Fit, |_, cell| fits(set, cell))?;
+    check_cells(cells, Refusal::Fields, |_, cell| fields_fit(set, cell))?;
+    put_facts(set, cells, known);
+    check_partitions(cells, known)?;
+    check_cells(
+        cells,
+        Refusal::Hints,
+        |above, cell| hint_fits(set, above, cell),
+    )?;
+    Ok(Fact::at(known, 0).partitions)
 }
 
 /// Checks the plan in the first `count` cells of a table: the count, room for as many facts, then the plan. Accepted, it answers how
@@ -74,7 +74,7 @@ pub fn accept<O: OperatorSet>(
     check_count(table.len(), count)?;
     known.clear();
     check_room(known.room(), count)?;
-    check_plan(set, &table[0..count], known)
+    check_plan(set, &table[..count], known)
 }
 
 /// Checks the plan in the first `count` cells of a table, with lent memory for facts, which is blank afterwards. It answers the

@@ -4,6 +4,7 @@ ghost use Rattle.plan.specs.Numbers.{max_nodes};
 ghost use Rattle.plan.specs.Refusals.{refused_at};
 ghost use Rattle.plan.specs.Stacks.{content, room};
 ghost use Rattle.plan.specs.declared.refusals.Refusal.TheVariants.{Partitions};
+ghost use Rattle.operators.specs.Answers.{Answers};
 ghost use Rattle.checks.specs.Tree.{tree_of};
 ghost use Rattle.checks.specs.Facts.{is_empty, head_fact, together, rows_known, fact_with, every_fact, miscounted, counted_from, next_facts, Bounded};
 
@@ -37,14 +38,6 @@ pub struct Fact {
     pub rows: KnownRows,
 }
 
-impl Fact {
-    pub const BLANK: Fact = Fact {
-        size: 0,
-        partitions: 0,
-        rows: KnownRows::Unknown,
-    };
-}
-
 /// What is known of a node's children together.
 #[derive(Clone, Copy)]
 struct Children {
@@ -52,13 +45,6 @@ struct Children {
     partitions: u64,
     /// Whether each of them is known empty.
     empty: bool,
-}
-
-/// The fact so many cells behind the top of the stack.
-pub(super) fn fact_at(known: &Stack<Fact>, depth: usize) -> Fact
-    ensures { result ≡ head_fact (drop depth (content known.now)) }
-{
-    known.peek(depth).unwrap_or(Fact::BLANK)
 }
 
 /// What is known of the next subtrees together: each next one stands behind the cells of the one before it.
@@ -69,20 +55,18 @@ fn gather(children: u8, known: &Stack<Fact>) -> Children
     ensures size { result.size ≤ length (content known.now) }
     ensures partitions { result.partitions ≤ 2 ^ 32 * result.size }
 {
-    let mut sum = Children {
+    let mut all = Children {
         size: 0,
         partitions: 0,
         empty: true,
     };
-    for n in 0..children {
-        let child = fact_at(known, sum.size);
-        sum = Children {
-            size: sum.size + child.size,
-            partitions: sum.partitions + child.partitions,
-            empty: sum.empty & child.rows.is_empty(),
-        };
+    for _ in 0..children {
+        let child = Fact::at(known, all.size);
+        all.size += child.size;
+        all.partitions += child.partitions;
+        all.empty &= child.rows.is_empty();
     }
-    sum
+    all
 }
 
 fn known_rows<O: OperatorSet>(set: &O, cell: &Cell, all_empty: bool, child: KnownRows) -> KnownRows
@@ -91,12 +75,25 @@ fn known_rows<O: OperatorSet>(set: &O, cell: &Cell, all_empty: bool, child: Know
     match Kind::from(cell.kind) {
         Kind::PlaceholderRow => KnownRows::OneRow,
         Kind::Projection => child,
-        _ if known_empty(set, cell.kind, cell.parameter, all_empty) => KnownRows::NoRow,
+        _ if known_empty(set, cell, all_empty) => KnownRows::NoRow,
         _ => KnownRows::Unknown,
     }
 }
 
 impl Fact {
+    pub const BLANK: Fact = Fact {
+        size: 0,
+        partitions: 0,
+        rows: KnownRows::Unknown,
+    };
+
+    /// The fact so many below the top of the stack; the blank one if there are not so many.
+    pub fn at(known: &Stack<Fact>, depth: usize) -> Fact
+        ensures { result ≡ head_fact (drop depth (content known.now)) }
+    {
+        known.peek(depth).unwrap_or(Fact::BLANK)
+    }
+
     /// The fact of a cell whose children's subtrees are the next.
     fn of<O: OperatorSet>(set: &O, cell: &Cell, known: &Stack<Fact>) -> Fact
         requires bounded { Bounded (content known.now) }
@@ -108,53 +105,47 @@ impl Fact {
         let children = gather(cell.children, known);
         Fact {
             size: 1 + children.size,
-            partitions: partitions(set, cell.kind, cell.parameter, children.partitions),
-            rows: known_rows(set, cell, children.empty, fact_at(known, 0).rows),
+            partitions: partitions(set, cell, children.partitions),
+            rows: known_rows(set, cell, children.empty, Fact::at(known, 0).rows),
         }
     }
 }
 
-/// Refused at this cell where its partitions are miscounted, else as the cells behind it.
-fn counted(
-    cell: &Cell,
-    own: u64,
-    child: u64,
-    place: usize,
-    behind: Result<(), Fault>,
-) -> Result<(), Fault>
-    ensures { result ≡ (if miscounted cell.now own child then refused_at Partitions place else behind) }
-{
-    let alone = !matches!(Kind::from(cell.kind), Kind::GlobalLimit) || child == 1;
-    if own == 0 || own > MAX_PARTITIONS || !alone {
-        return Err(Fault {
-            refusal: Refusal::Partitions,
-            place,
-        });
-    }
-    behind
-}
-
-/// Puts the fact of each cell on the empty stack, the last cell's first, and refuses the first cell whose partitions are miscounted.
-pub(super) fn check_partitions<O: OperatorSet>(
-    set: &O,
-    cells: &[Cell],
-    known: &mut Stack<Fact>,
-) -> Result<(), Fault>
+/// Puts the fact of each cell on the empty stack, the last cell's first.
+pub(super) fn put_facts<O: OperatorSet>(set: &O, cells: &[Cell], known: &mut Stack<Fact>)
     requires tree { tree_of cells.now ≡ Ok tt }
     requires few { length cells.now ≤ max_nodes }
     requires empty { content known.old ≡ [] }
     requires room { length cells.now ≤ room known.old }
     ensures loan { known.new.items.ghost_name ≡ known.old.items.ghost_name }
-    ensures answer { result ≡ counted_from (O.OperatorSet.answers set.now) 0 cells.now }
     ensures facts { content known.new ≡ every_fact (O.OperatorSet.answers set.now) cells.now }
 {
-    let mut answer = Ok(());
-    for place in (0..cells.len()).rev() {
-        let cell = &cells[place];
+    for cell in cells.iter().rev() {
         let own = Fact::of(set, cell, known);
-        let child = fact_at(known, 0).partitions;
-        answer = counted(cell, own.partitions, child, place, answer);
-        known.push(own);
+        // there is room for as many facts as cells
+        let _ = known.push(own);
     }
-    answer
+}
+
+/// Whether a node has no partition or too many, or is a global limit over a child of not exactly one.
+fn is_miscounted(cell: &Cell, own: u64, child: u64) -> bool
+    ensures { result ≡ miscounted cell.now own child }
+{
+    own == 0
+        || own > MAX_PARTITIONS
+        || matches!(Kind::from(cell.kind), Kind::GlobalLimit) && child != 1
+}
+
+/// The first cell whose partitions are miscounted is refused, at its place, if the stack holds the facts of the cells.
+pub(super) fn check_partitions(cells: &[Cell], known: &Stack<Fact>) -> Result<(), Fault>
+    ensures { (a : Answers) → content known.now ≡ every_fact a cells.now → result ≡ counted_from a 0 cells.now }
+{
+    for (place, cell) in cells.iter().enumerate() {
+        let own = Fact::at(known, place);
+        let child = Fact::at(known, place + 1);
+        if is_miscounted(cell, own.partitions, child.partitions) {
+            return Err(Refusal::Partitions.at(place));
+        }
+    }
+    Ok(())
 }

@@ -5,6 +5,7 @@ ghost use Rattle.checks.specs.Tree.{tree_of};
 use plan::{Cell, Fault, Refusal};
 
 /// The place of a refusal is the first cell after a closed tree, or the count if the tree is open.
+#[tactic(auto, using(crate::proofs::Walks::cells_more))]
 pub(super) fn check_tree(cells: &[Cell]) -> Result<(), Fault>
     ensures { result ≡ tree_of cells.now }
 {
@@ -12,18 +13,13 @@ pub(super) fn check_tree(cells: &[Cell]) -> Result<(), Fault>
     let mut trees: u128 = 1;
     for (place, cell) in cells.iter().enumerate() {
         if trees == 0 {
-            return Err(Fault {
-                refusal: Refusal::Tree,
-                place,
-            });
+            return Err(Refusal::Tree.at(place));
         }
-        trees = trees - 1 + cell.children as u128;
+        let children = cell.children;
+        trees = trees - 1 + u128::from(children);
     }
     if trees == 0 {
         return Ok(());
     }
-    Err(Fault {
-        refusal: Refusal::Tree,
-        place: cells.len(),
-    })
+    Err(Refusal::Tree.at(cells.len()))
 }

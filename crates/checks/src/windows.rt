@@ -1,34 +1,23 @@
 // The check on windows that grow makes.
 ghost use Rattle.std.specs.Prelude.{◌≡◌, ◌+◌, ◌^◌, ◌<◌, ◌≤◌};
-ghost use Rattle.checks.specs.Windows.{is_absolute, any_absolute, looks_ahead, window_refused, below_after, windows_answer};
+ghost use Rattle.std.specs.List.{list_any};
+ghost use Rattle.checks.specs.Windows.{is_absolute, looks_ahead, window_refused, below_after, windows_answer};
 
 use operators::{LimitEffect, OperatorSet, Reach, WindowExpr};
 use plan::{Cell, Fault, Kind, Refusal};
 
-fn is_absolute(effect: LimitEffect) -> bool
-    ensures { result ≡ is_absolute effect }
-{
-    matches!(effect, LimitEffect::Absolute(_))
-}
-
 fn has_absolute(exprs: &[WindowExpr]) -> bool
-    ensures { result ≡ any_absolute exprs.now }
+    ensures { result ≡ list_any (λ e. is_absolute e.effect) exprs.now }
 {
-    for e in exprs {
-        if is_absolute(e.effect) {
-            return true;
-        }
-    }
-    false
+    exprs
+        .iter()
+        .any(|e| matches!(e.effect, LimitEffect::Absolute(_)))
 }
 
 fn looks_ahead(exprs: &[WindowExpr]) -> bool
     ensures { result ≡ looks_ahead exprs.now }
 {
-    match Reach::of(exprs) {
-        Some(reach) => reach.following > 0 || reach.relative > 0,
-        None => false,
-    }
+    Reach::of(exprs).is_some_and(|reach| reach.following > 0 || reach.relative > 0)
 }
 
 /// Whether the check refuses a cell, if so many subtrees still to come stand below a window that looks ahead.
@@ -49,11 +38,11 @@ fn below_after<O: OperatorSet>(set: &O, below: u128, cell: &Cell) -> u128
     ensures bound { result ≤ below + 255 }
 {
     if below > 0 {
-        return below - 1 + cell.children as u128;
+        return below - 1 + u128::from(cell.children);
     }
     let window = matches!(Kind::from(cell.kind), Kind::BoundedWindowAgg);
     if window && looks_ahead(set.window(cell.parameter)) {
-        return cell.children as u128;
+        return u128::from(cell.children);
     }
     0
 }
@@ -65,10 +54,7 @@ pub fn check_windows<O: OperatorSet>(set: &O, cells: &[Cell]) -> Result<(), Faul
     let mut below: u128 = 0;
     for (place, cell) in cells.iter().enumerate() {
         if is_refused(set, below, cell) {
-            return Err(Fault {
-                refusal: Refusal::Windows,
-                place,
-            });
+            return Err(Refusal::Windows.at(place));
         }
         below = below_after(set, below, cell);
     }

@@ -6,11 +6,11 @@ use Rattle.std.specs.List.{AllByRecursion}
 use Rattle.plan.specs.declared.cells.Cell.{Cell}
 use Rattle.plan.specs.declared.refusals.Fault.{Fault}
 use Rattle.plan.specs.declared.refusals.Refusal.{Refusal}
-use Rattle.plan.specs.declared.refusals.Refusal.TheVariants.{Tree, Partitions, Windows}
+use Rattle.plan.specs.declared.refusals.Refusal.TheVariants.{Tree, Fit as Misfit, Fields as Misplaced, Partitions, Hints as Unborne, Windows}
 use Rattle.plan.specs.Refusals.{refused_at, then}
 use Rattle.operators.specs.Answers.{Answers}
 use Rattle.checks.specs.Tree.{tree_from, tree_of}
-use Rattle.checks.specs.Cells.{fit_cell, fields_cell, hint_cell, passes_check, refusal_of, singly_from, singly}
+use Rattle.checks.specs.Cells.{fit_cell, fields_cell, hint_cell, singly_from, singly}
 use Rattle.checks.specs.Facts.{head_fact, facts, miscounted, counted_from}
 use Rattle.checks.specs.Windows.{window_refused, below_after, windows_from}
 use Rattle.checks.specs.Accepts.{root_partitions, plan_answer, Accepted}
@@ -79,18 +79,17 @@ from_all : (test : Cell → Bool) (before : Option Cell) (cs : List Cell) → Al
 from_all test before [] h = tt
 from_all test before (c ∷ cs) h = (h.0, from_all test (Some c) cs h.1)
 
+one_by_one : (test : Option Cell → Cell → Bool) (r : Refusal) (before : Option Cell) (at : ℕ) (cs : List Cell) → singly_from test r before at cs ≡ Ok tt → EachPasses test before cs
+one_by_one test r before at [] e = tt
+one_by_one test r before at (c ∷ cs) e =
+    let h = refused_else (test before c) r at (singly_from test r (Some c) (at + 1) cs) e in
+    (h.0, one_by_one test r (Some c) (at + 1) cs h.1)
+
+from_each : (test : Option Cell → Cell → Bool) (r : Refusal) (before : Option Cell) (at : ℕ) (cs : List Cell) → EachPasses test before cs → singly_from test r before at cs ≡ Ok tt
+from_each test r before at [] h = refl
+from_each test r before at (c ∷ cs) h = ap (λ b. cond b (singly_from test r (Some c) (at + 1) cs) (refused_at r at)) h.0 ∙ from_each test r (Some c) (at + 1) cs h.1
+
 module _ (a : Answers) where
-  one_by_one : (s : _) (before : Option Cell) (at : ℕ) (cs : List Cell) → singly_from a s before at cs ≡ Ok tt → EachPasses (passes_check a s) before cs
-  one_by_one s before at [] e = tt
-  one_by_one s before at (c ∷ cs) e =
-      let h = refused_else (passes_check a s before c) (refusal_of s) at (singly_from a s (Some c) (at + 1) cs) e in
-      (h.0, one_by_one s (Some c) (at + 1) cs h.1)
-
-  from_each : (s : _) (before : Option Cell) (at : ℕ) (cs : List Cell) → EachPasses (passes_check a s) before cs → singly_from a s before at cs ≡ Ok tt
-  from_each s before at [] h = refl
-  from_each s before at (c ∷ cs) h =
-      ap (λ b. cond b (singly_from a s (Some c) (at + 1) cs) (refused_at (refusal_of s) at)) h.0 ∙ from_each s (Some c) (at + 1) cs h.1
-
   counted : (at : ℕ) (cs : List Cell) → counted_from a at cs ≡ Ok tt → Counted a cs
   unfolding counted_from
   counted at [] e = tt
@@ -122,49 +121,31 @@ granted : (r : Answer) (f : Unit {0} → Result ℕ Fault) → is_ok (then r f) 
 granted (Ok tt) f e = (refl, e)
 granted (Err x) f e = absurd (false≢true e)
 
--- what follows if a chain of checks grants
-record Grants (b : Bool) (P : Type 0) : Type 0 where
-  then_so : b ≡ true → P
-
--- what follows if each cell passes three tests
-record Follows (cs : List Cell) (P : Type 0) (s t u : Option Cell → Cell → Bool) : Type 0 where
-  so : EachPasses s None cs → EachPasses t None cs → EachPasses u None cs → P
-
 module _ (a : Answers) (cs : List Cell) where
-  -- the chain, whichever the checks of single cells are: they have no names outside their crate, so `search` finds them
-  passed_by : (P : Type 0) (s t u : _) → Follows cs P (passes_check a s) (passes_check a t) (passes_check a u)
-      → Grants (is_ok (then (tree_of cs) (λ _. then (singly a s cs) (λ _. then (singly a t cs) (λ _. then (counted_from a 0 cs) (λ _. then (singly a u cs) (λ _. Ok (root_partitions a cs)))))))) (Trees 1 cs × Counted a cs × P)
-  passed_by P s t u f =
-      record {
-        then_so = λ h.
-            let tree = granted (tree_of cs) (λ _. then (singly a s cs) (λ _. then (singly a t cs) (λ _. then (counted_from a 0 cs) (λ _. then (singly a u cs) (λ _. Ok (root_partitions a cs)))))) h in
-            let first = granted (singly a s cs) (λ _. then (singly a t cs) (λ _. then (counted_from a 0 cs) (λ _. then (singly a u cs) (λ _. Ok (root_partitions a cs))))) tree.1 in
-            let second = granted (singly a t cs) (λ _. then (counted_from a 0 cs) (λ _. then (singly a u cs) (λ _. Ok (root_partitions a cs)))) first.1 in
-            let counts = granted (counted_from a 0 cs) (λ _. then (singly a u cs) (λ _. Ok (root_partitions a cs))) second.1 in
-            let third = granted (singly a u cs) (λ _. Ok (root_partitions a cs)) counts.1 in
-            (trees 1 0 cs tree.0, counted a 0 cs counts.0, f.so (one_by_one a s None 0 cs first.0) (one_by_one a t None 0 cs second.0) (one_by_one a u None 0 cs third.0));
-      }
-
-  accepted_by : (s t u : _) → Trees 1 cs → EachPasses (passes_check a s) None cs → EachPasses (passes_check a t) None cs → Counted a cs → EachPasses (passes_check a u) None cs
-      → is_ok (then (tree_of cs) (λ _. then (singly a s cs) (λ _. then (singly a t cs) (λ _. then (counted_from a 0 cs) (λ _. then (singly a u cs) (λ _. Ok (root_partitions a cs))))))) ≡ true
-  accepted_by s t u h fit fields counts hints =
-      let tree = from_trees 1 0 cs h in
-      let first = from_each a s None 0 cs fit in
-      let second = from_each a t None 0 cs fields in
-      let count = from_counted a 0 cs counts in
-      let third = from_each a u None 0 cs hints in
-      ap is_ok (λ i. then (tree i) (λ _. then (first i) (λ _. then (second i) (λ _. then (count i) (λ _. then (third i) (λ _. Ok (root_partitions a cs)))))))
-
-  passed_each : Follows cs (Fit a cs × Fields a cs × Hints a None cs) (λ u. fit_cell a) (λ u. fields_cell a) (λ u c. hint_cell a u c c.hint) → Grants (is_ok (plan_answer a cs)) (Trees 1 cs × Counted a cs × (Fit a cs × Fields a cs × Hints a None cs))
-  passed_each f = search passed_by
-
-  accepted_each : Trees 1 cs → EachPasses (λ u. fit_cell a) None cs → EachPasses (λ u. fields_cell a) None cs → Counted a cs → Hints a None cs → Accepted a cs
-  accepted_each tree fit fields counts hints = search accepted_by
-
   pub passed : Accepted a cs → Passed a cs
   passed h =
-      let parts = (passed_each (record { so = λ fit fields hints. (all_of (fit_cell a) None cs fit, all_of (fields_cell a) None cs fields, hints) })).then_so h in
-      record { tree = parts.0; counts = parts.1; fit = parts.2.0; fields = parts.2.1; hints = parts.2.2 }
+      let fit : Answer = singly (λ _. fit_cell a) Misfit cs in
+      let fields : Answer = singly (λ _. fields_cell a) Misplaced cs in
+      let counts : Answer = counted_from a 0 cs in
+      let hints : Answer = singly (λ u c. hint_cell a u c c.hint) Unborne cs in
+      let after_tree = granted (tree_of cs) (λ _. then fit (λ _. then fields (λ _. then counts (λ _. then hints (λ _. Ok (root_partitions a cs)))))) h in
+      let after_fit = granted fit (λ _. then fields (λ _. then counts (λ _. then hints (λ _. Ok (root_partitions a cs))))) after_tree.1 in
+      let after_fields = granted fields (λ _. then counts (λ _. then hints (λ _. Ok (root_partitions a cs)))) after_fit.1 in
+      let after_counts = granted counts (λ _. then hints (λ _. Ok (root_partitions a cs))) after_fields.1 in
+      let after_hints = granted hints (λ _. Ok (root_partitions a cs)) after_counts.1 in
+      record {
+        tree = trees 1 0 cs after_tree.0;
+        fit = all_of (fit_cell a) None cs (one_by_one (λ _. fit_cell a) Misfit None 0 cs after_fit.0);
+        fields = all_of (fields_cell a) None cs (one_by_one (λ _. fields_cell a) Misplaced None 0 cs after_fields.0);
+        counts = counted a 0 cs after_counts.0;
+        hints = one_by_one (λ u c. hint_cell a u c c.hint) Unborne None 0 cs after_hints.0;
+      }
 
   pub accepted : Passed a cs → Accepted a cs
-  accepted h = accepted_each h.tree (from_all (fit_cell a) None cs h.fit) (from_all (fields_cell a) None cs h.fields) h.counts h.hints
+  accepted h =
+      let tree = from_trees 1 0 cs h.tree in
+      let fit = from_each (λ _. fit_cell a) Misfit None 0 cs (from_all (fit_cell a) None cs h.fit) in
+      let fields = from_each (λ _. fields_cell a) Misplaced None 0 cs (from_all (fields_cell a) None cs h.fields) in
+      let counts = from_counted a 0 cs h.counts in
+      let hints = from_each (λ u c. hint_cell a u c c.hint) Unborne None 0 cs h.hints in
+      ap is_ok (λ i. then (tree i) (λ _. then (fit i) (λ _. then (fields i) (λ _. then (counts i) (λ _. then (hints i) (λ _. Ok (root_partitions a cs)))))))

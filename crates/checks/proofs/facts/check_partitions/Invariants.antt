@@ -1,13 +1,8 @@
-use Rattle.std.proofs.Common.{◌≡◌, ◌+◌, length, drop}
-use Rattle.plan.specs.Stacks.{content, room}
-use Rattle.checks.specs.Facts.{every_fact, counted_from, Bounded}
+use Rattle.std.proofs.Common.{◌≡◌, drop}
+use Rattle.plan.specs.Stacks.{content}
+use Rattle.operators.specs.Answers.{Answers}
+use Rattle.checks.specs.Facts.{every_fact, counted_from}
 use Rattle.checks.proofs.facts.check_partitions.Given as goal
 
 abbrev pub invariant-loop-place : goal.invariant-loop-place
-invariant-loop-place g l =
-    let a = g.O.OperatorSet.answers l.set in
-    (l.known.items.ghost_name ≡ l.initial.known.items.ghost_name)
-    × (room l.known + length l.cells ≡ room l.initial.known + l.place)
-    × (content l.known ≡ every_fact a (drop l.place l.cells))
-    × Bounded (content l.known)
-    × (l.answer ≡ counted_from a l.place (drop l.place l.cells))
+invariant-loop-place l = (a : Answers) → content l.known ≡ every_fact a l.cells → counted_from a l.place (drop l.place l.cells) ≡ counted_from a 0 l.cells

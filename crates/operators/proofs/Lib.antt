@@ -1,4 +1,3 @@
 mod Declarable
-pub mod Exprs
-pub mod Lists
+mod Lists
 mod Showing

@@ -1,11 +1,10 @@
 -- How parentheses are closed, and which parent the next node has. Assumes nothing.
-use Rattle.std.proofs.Common.{◌≡◌, ℕ, ◌<◌, ◌≤◌, true, ◌||◌, List, [], ◌∷◌, ◌++◌, reverse, length, IfSome, Option, All, sym, refl, arith, true-eqb, eqb}
+use Rattle.std.proofs.Common.{◌≡◌, ℕ, ◌<◌, ◌≤◌, true, List, [], ◌∷◌, ◌++◌, reverse, length, IfSome, Option, All, sym, refl, arith, true-eqb}
 use Rattle.std.proofs.lemmas.List.{reverse-append}
 use Rattle.std.proofs.lemmas.List.Elements.{All-head, All-tail, All-cons}
-use Rattle.text.specs.Hex.{is_blank}
 use Rattle.notation.specs.Cursors.{begins, past_blanks, tail}
 use Rattle.notation.specs.Plans.{close_at, next_at}
-use Rattle.notation.proofs.Bounds.{Reads, done, either}
+use Rattle.notation.proofs.Bounds.{Reads}
 
 -- blanks behind a tree count for nothing
 pub close_blanks : (ps xs : List ℕ) → close_at ps (past_blanks xs) ≡ close_at ps xs
@@ -27,16 +26,18 @@ module _ (nodes : ℕ) where
 
 module _ (nodes n : ℕ) where
   close_reads : (ps xs : List ℕ) → All (IsRead nodes) ps → length xs ≤ n → Reads (AreRead nodes) n (close_at ps xs)
-  close_reads [] [] w h = done n (tt, w) (omega arith)
+  close_reads [] [] w h = record { read = grind arith }
   close_reads (p ∷ ps) [] w h = record { read = tt }
-  close_reads [] (x ∷ xs) w h = either (is_blank x) (close_reads [] xs w (omega arith)) (record { read = tt })
+  close_reads [] (x ∷ xs) w h = let blank = close_reads [] xs w (omega arith) in record { read = grind arith }
   close_reads (p ∷ ps) (x ∷ xs) w h =
-      either (is_blank x) (close_reads (p ∷ ps) xs w (omega arith))
-      (either (eqb x 41) (close_reads ps xs (All-tail (IsRead nodes) p ps w) (omega arith))
-      (either (eqb x 44) (done n (All-head (IsRead nodes) p ps w, w) (omega arith)) (record { read = tt })))
+      let blank = close_reads (p ∷ ps) xs w (omega arith) in
+      let closed = close_reads ps xs (All-tail (IsRead nodes) p ps w) (omega arith) in
+      let comma = All-head (IsRead nodes) p ps w in
+      record { read = grind arith }
 
   pub next_reads : (ps : List ℕ) (last : ℕ) (xs : List ℕ) → All (IsRead nodes) ps → last < nodes → length xs ≤ n → Reads (AreRead nodes) n (next_at ps last xs)
   next_reads ps last [] w l h = close_reads ps [] w h
   next_reads ps last (x ∷ xs) w l h =
-      either (eqb x 40) (done n (l, All-cons (IsRead nodes) last ps l w) (omega arith))
-      (either (eqb x 44 || eqb x 41) (close_reads ps (x ∷ xs) w h) (done n (l, w) h))
+      let closed = close_reads ps (x ∷ xs) w h in
+      let opened = All-cons (IsRead nodes) last ps l w in
+      record { read = grind arith }

@@ -1,5 +1,4 @@
 pub mod Widths
-pub mod ByteWise
 pub mod Passes
 pub mod Chunks
 pub mod Undone

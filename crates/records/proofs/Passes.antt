@@ -13,9 +13,6 @@ module _ {A : Type 0} (r : Refusal) (test : A → Bool) (xs : List A) (i : ℕ) 
   pub pass_stop : (d : A) → i < length xs → test (get_or xs i d) ≡ false → all_pass r test i (drop i xs) ≡ refused_at r i
   pass_stop d h e = at_drop_more (all_pass r test i) xs i d h ∙ rw e
 
-  pub pass_all : length xs ≤ i → all_pass r test i (drop i xs) ≡ Ok tt
-  pass_all h = at_drop_all (all_pass r test i) xs i h
-
 -- what was granted passed the test
 pub passed : {A : Type 0} (r : Refusal) (test : A → Bool) (i : ℕ) (xs : List A) → all_pass r test i xs ≡ Ok tt → AllByRecursion (λ x. test x ≡ true) xs
 passed r test i [] e = tt
@@ -35,3 +32,8 @@ pass_each r test i (x ∷ xs) h = rw h.0 (pass_each r test (i + 1) xs h.1)
 pub pass_map : {A B : Type 0} (r : Refusal) (test : A → Bool) (f : B → A) → ((x : B) → test (f x) ≡ true) → (i : ℕ) (xs : List B) → all_pass r test i (map f xs) ≡ Ok tt
 pass_map r test f h i [] = refl
 pass_map r test f h i (x ∷ xs) = rw (h x) (pass_map r test f h (i + 1) xs)
+
+-- a test of what each becomes
+pub pass_through : {A B : Type 0} (r : Refusal) (test : A → Bool) (f : B → A) (i : ℕ) (xs : List B) → all_pass r test i (map f xs) ≡ all_pass r (λ x. test (f x)) i xs
+pass_through r test f i [] = refl
+pass_through r test f i (x ∷ xs) = rw (pass_through r test f (i + 1) xs)

@@ -52,10 +52,3 @@ through ws us vs e h =
     let n = joined ws vs in
     let same : joined us (cut us n) % 2 ^ bits ws ≡ n % 2 ^ bits ws = ap (λ (x : ℕ). x % 2 ^ bits ws) (joined_cut us n ∙ ap (λ (b : ℕ). n % 2 ^ b) e) ∙ mod-mod n (2 ^ bits ws) in
     cut_same ws (joined us (cut us n)) n same ∙ cut_joined ws vs h
-
--- one field more behind a number
-pub behind : (n w v b j : ℕ) → n * 2 ^ (w + b) + (v * 2 ^ b + j) ≡ (n * 2 ^ w + v) * 2 ^ b + j
-behind n w v b j =
-    let e : n * 2 ^ (w + b) ≡ n * 2 ^ w * 2 ^ b = ap (λ (x : ℕ). n * x) (pow-add 2 w b) ∙ sym (mul_assoc n (2 ^ w) (2 ^ b)) in
-    let d = add-mul (n * 2 ^ w) v (2 ^ b) in
-    omega arith

@@ -1,6 +1,7 @@
 -- Packed plans: the records of a plan's cells one after another, and what is refused. Assumes nothing.
-use Rattle.std.specs.Prelude.{ℕ, zero, suc, ◌+◌, ◌*◌, ◌/◌, ◌%◌, Bool, cond, not, ◌&&◌, ◌||◌, List, [], ◌∷◌, ◌++◌, map, length, take, drop, is_some, Ok, Result, ◌==◌, nat_le, nat_lt}
+use Rattle.std.specs.Prelude.{ℕ, ◌+◌, ◌*◌, ◌/◌, ◌%◌, Bool, cond, not, ◌&&◌, ◌||◌, List, [], ◌∷◌, ◌++◌, map, length, is_some, Ok, Result, ◌==◌, nat_le, nat_lt}
 use Rattle.std.specs.Option.{unwrap_or}
+use Rattle.std.specs.Simd.{first_chunks}
 use Rattle.plan.specs.declared.cells.Cell.{Cell}
 use Rattle.plan.specs.declared.refusals.Fault.{Fault}
 use Rattle.plan.specs.declared.refusals.Refusal.{Refusal}
@@ -16,8 +17,7 @@ packed_plan (c ∷ cs) = packed c ++ packed_plan cs
 
 -- the first so many records of a packed plan
 abbrev pub records : ℕ → List ℕ → List (List ℕ)
-records zero bytes = []
-records (suc n) bytes = take record_size bytes ∷ records n (drop record_size bytes)
+records n bytes = first_chunks record_size n bytes
 
 -- the values of the fields of each record of a packed plan
 abbrev pub plan_values : List ℕ → List (List ℕ)

@@ -1,12 +1,14 @@
-// A record as one number of 112 bits: where its fields stand.
-ghost use Rattle.std.specs.Prelude.{◌≡◌, ◌<◌};
-ghost use Rattle.records.specs.Fields.{joined, cut};
-ghost use Rattle.records.specs.Record.{layout, values_of, cell_of, sound};
+// A cell's record: a number of 112 bits, whose fields stand one below the other, as 14 bytes.
+ghost use Rattle.std.specs.Prelude.{◌≡◌, ◌<◌, length};
+ghost use Rattle.records.specs.Fields.{joined};
+ghost use Rattle.records.specs.Record.{record_size, octets, layout, values_of, packed, values_in, cell_of, sound};
 
 use plan::Cell;
 
 /// How many bytes a record has.
 pub const RECORD: usize = 14;
+
+pub(crate) type Record = [u8; RECORD];
 
 // What 1 in each field adds to the number; extra, the last field, counts in ones.
 const KIND: u128 = 1 << 104;
@@ -26,8 +28,19 @@ const FETCH: u128 = 1 << 40;
 // How many values a field of 40 bits has.
 const NUMBERS: u128 = 1 << 40;
 
-/// The number of a cell's record.
-pub(crate) fn number_of(cell: &Cell) -> u128
+// The number that a record's bytes write, most significant first.
+fn read_number(bytes: &Record) -> u128
+    ensures { result ≡ joined (octets record_size) bytes.now }
+{
+    let mut whole = [0; 16];
+    for (place, byte) in bytes.iter().enumerate() {
+        whole[place + 2] = *byte;
+    }
+    u128::from_be_bytes(whole)
+}
+
+// The number of a cell's record.
+fn number_of(cell: &Cell) -> u128
     ensures value { result ≡ joined layout (values_of cell.now) }
     ensures kind { cell.now.kind < 256 }
 {
@@ -42,17 +55,31 @@ pub(crate) fn number_of(cell: &Cell) -> u128
     head + flags + u128::from(fetch) * FETCH + u128::from(extra)
 }
 
-/// A record without the fetch bit has no fetch.
-pub(crate) fn is_sound(number: u128) -> bool
-    ensures { result ≡ sound (cut layout number) }
+/// Writes the record of a cell over all of `out`.
+pub(crate) fn write_record(cell: &Cell, out: &mut [u8])
+    requires { length out.old ≡ record_size }
+    ensures bytes { out.new ≡ packed cell.now }
+    ensures kind { cell.now.kind < 256 }
 {
+    let bytes = number_of(cell).to_be_bytes();
+    for (place, byte) in out.iter_mut().enumerate() {
+        *byte = bytes[place + 2];
+    }
+}
+
+/// A record without the fetch bit has no fetch.
+pub(crate) fn is_sound(bytes: &Record) -> bool
+    ensures { result ≡ sound (values_in bytes.now) }
+{
+    let number = read_number(bytes);
     number / FETCH_BIT % 2 == 1 || number / FETCH % NUMBERS == 0
 }
 
-/// The cell of a record's number.
-pub(crate) fn cell_of(number: u128) -> Cell
-    ensures { result ≡ cell_of (cut layout number) }
+/// The cell of a record.
+pub(crate) fn cell_of(bytes: &Record) -> Cell
+    ensures { result ≡ cell_of (values_in bytes.now) }
 {
+    let number = read_number(bytes);
     let fetch = (number / FETCH % NUMBERS) as u64;
     let extra = (number % NUMBERS) as u64;
     let fetched = number / FETCH_BIT % 2 == 1;
@@ -62,8 +89,8 @@ pub(crate) fn cell_of(number: u128) -> Cell
         children: (number / CHILDREN % 0x40) as u8,
         parameter: (number / PARAMETER % 0x8000) as u32,
         mark: number / MARK % 2 == 1,
-        fetch: if fetched { Some(fetch) } else { None },
-        hint: if hinted { Some(extra) } else { None },
+        fetch: fetched.then_some(fetch),
+        hint: hinted.then_some(extra),
         skip: if hinted { 0 } else { extra },
     }
 }

@@ -2,7 +2,6 @@
 #![tactic(auto)]
 
 mod layout;
-mod octets;
 mod plans;
 
 pub use layout::RECORD;

@@ -1,15 +1,13 @@
 // Plans as packed bytes.
-ghost use Rattle.std.specs.Prelude.{◌≡◌, ◌+◌, ◌*◌, ◌/◌, ◌<◌, ◌≤◌, ◌++◌, map, length, take, drop, IfOk, Ok};
+ghost use Rattle.std.specs.Prelude.{◌≡◌, ◌+◌, ◌*◌, ◌/◌, ◌<◌, ◌≤◌, ◌++◌, map, length, take, drop, IfOk, Ok, Bool};
 ghost use Rattle.std.specs.List.{AllByRecursion};
 ghost use Rattle.plan.specs.declared.refusals.Refusal.TheVariants.{Packed, Fit, Fields};
 ghost use Rattle.plan.specs.Cells.{blank};
-ghost use Rattle.records.specs.Fields.{joined};
-ghost use Rattle.records.specs.Record.{record_size, octets, cell_of, sound};
+ghost use Rattle.records.specs.Record.{record_size, cell_of, sound, values_in};
 ghost use Rattle.records.specs.Plans.{packed_plan, plan_values, fits, in_range, all_pass, packing, unpacking};
 ghost use Rattle.plan.specs.Tables.{counted, laid};
 
-use crate::layout::{RECORD, cell_of, is_sound, number_of};
-use crate::octets::{read_number, write_number};
+use crate::layout::{RECORD, Record, cell_of, is_sound, write_record};
 use plan::{Cell, Fault, MAX_CHILDREN, MAX_NUMBER, MAX_PARAMETER, Refusal};
 
 fn is_fit(cell: &Cell) -> bool
@@ -21,37 +19,19 @@ fn is_fit(cell: &Cell) -> bool
 fn is_in_range(cell: &Cell) -> bool
     ensures { result ≡ in_range cell.now }
 {
-    cell.fetch.unwrap_or(0) <= MAX_NUMBER
-        && cell.hint.unwrap_or(0) <= MAX_NUMBER
+    cell.fetch.is_none_or(|fetch| fetch <= MAX_NUMBER)
+        && cell.hint.is_none_or(|hint| hint <= MAX_NUMBER && cell.skip == 0)
         && cell.skip <= MAX_NUMBER
-        && (cell.hint.is_none() || cell.skip == 0)
 }
 
-// Refuses the first cell whose child count or parameter is too wide.
-fn check_fit(cells: &[Cell]) -> Result<(), Fault>
-    ensures { result ≡ all_pass Fit fits 0 cells.now }
+// Refuses the first item that does not pass.
+fn check_each<T, F: Fn(&T) -> bool>(items: &[T], refusal: Refusal, passes: F) -> Result<(), Fault>
+    requires { F.IsAlwaysCallable passes }
+    ensures { (test : T → Bool) → ((x : _) (r : Bool) → F.post passes x r → r ≡ test x.now) → result ≡ all_pass refusal test 0 items.now }
 {
-    for (place, cell) in cells.iter().enumerate() {
-        if !is_fit(cell) {
-            return Err(Fault {
-                refusal: Refusal::Fit,
-                place,
-            });
-        }
-    }
-    Ok(())
-}
-
-// Refuses the first cell with a number that is too wide, or a hint beside a skip.
-fn check_range(cells: &[Cell]) -> Result<(), Fault>
-    ensures { result ≡ all_pass Fields in_range 0 cells.now }
-{
-    for (place, cell) in cells.iter().enumerate() {
-        if !is_in_range(cell) {
-            return Err(Fault {
-                refusal: Refusal::Fields,
-                place,
-            });
+    for (place, item) in items.iter().enumerate() {
+        if !passes(item) {
+            return Err(refusal.at(place));
         }
     }
     Ok(())
@@ -63,9 +43,9 @@ fn write_plan(cells: &[Cell], out: &mut [u8])
     ensures bytes { out.new ≡ packed_plan cells.now ++ drop (record_size * length cells.now) out.old }
     ensures kinds { AllByRecursion (λ c. c.kind < 256) cells.now }
 {
-    for place in 0..cells.len() {
+    for (place, cell) in cells.iter().enumerate() {
         let at = RECORD * place;
-        write_number(number_of(&cells[place]), &mut out[at..at + RECORD]);
+        write_record(cell, &mut out[at..at + RECORD]);
     }
 }
 
@@ -79,82 +59,51 @@ pub fn pack(cells: &[Cell], out: &mut [u8]) -> Result<usize, Fault>
 {
     // By a quotient, since the product may be too large for its type.
     if cells.len() > out.len() / RECORD {
-        return Err(Fault {
-            refusal: Refusal::Room,
-            place: 0,
-        });
+        return Err(Refusal::Room.at(0));
     }
-    check_fit(cells)?;
-    check_range(cells)?;
+    check_each(cells, Refusal::Fit, is_fit)?;
+    check_each(cells, Refusal::Fields, is_in_range)?;
     out.fill(0);
     write_plan(cells, out);
     Ok(RECORD * cells.len())
 }
 
-// The number of the record at a place.
-fn number_at(bytes: &[u8], place: usize) -> u128
-    requires { record_size * place + record_size ≤ length bytes.now }
-    ensures { result ≡ joined (octets record_size) (take record_size (drop (record_size * place) bytes.now)) }
-{
-    let at = RECORD * place;
-    read_number(&bytes[at..at + RECORD])
-}
-
-// Refuses the first record with a fetch but without its bit.
-fn check_records(bytes: &[u8]) -> Result<(), Fault>
-    ensures { result ≡ all_pass Packed sound 0 (plan_values bytes.now) }
-{
-    for place in 0..bytes.len() / RECORD {
-        if !is_sound(number_at(bytes, place)) {
-            return Err(Fault {
-                refusal: Refusal::Packed,
-                place,
-            });
-        }
-    }
-    Ok(())
-}
-
-// Writes the cells over the front of `table`, and leaves the rest of it.
-fn read_plan(bytes: &[u8], table: &mut [Cell])
-    requires { length bytes.now / record_size ≤ length table.old }
-    ensures { table.new ≡ map cell_of (plan_values bytes.now) ++ drop (length bytes.now / record_size) table.old }
-{
-    for place in 0..bytes.len() / RECORD {
-        table[place] = cell_of(number_at(bytes, place));
-    }
-}
-
 /// Unpacks a plan into the front of `table`, with blank cells behind it, and answers how many cells it has.
 /// Refused, in this order, with `table` as it was: `Packed` at 0 if the bytes are no whole records, `Packed` at the first record with
 /// a fetch but without its bit, `Room` at 0 if the cells do not suffice.
+#[tactic(auto, using(crate::proofs::Passes::pass_through))]
 pub fn unpack(bytes: &[u8], table: &mut [Cell]) -> Result<usize, Fault>
     ensures answer { result ≡ counted (unpacking bytes.now (length table.old)) }
     ensures cells { table.new ≡ laid blank (unpacking bytes.now (length table.old)) table.old }
     ensures undone { IfOk result (λ n. packing (take n table.new) (length bytes.now) ≡ Ok bytes.now) }
 {
-    if bytes.len() % RECORD != 0 {
-        return Err(Fault {
-            refusal: Refusal::Packed,
-            place: 0,
-        });
+    let (records, rest) = bytes.as_chunks::<RECORD>();
+    if !rest.is_empty() {
+        return Err(Refusal::Packed.at(0));
     }
-    check_records(bytes)?;
-    let count = bytes.len() / RECORD;
-    if count > table.len() {
-        return Err(Fault {
-            refusal: Refusal::Room,
-            place: 0,
-        });
+    check_each(records, Refusal::Packed, is_sound)?;
+    if records.len() > table.len() {
+        return Err(Refusal::Room.at(0));
     }
     table.fill(Cell::BLANK);
-    read_plan(bytes, table);
-    Ok(count)
+    read_plan(records, table);
+    Ok(records.len())
+}
+
+// Writes the records' cells over the front of `table`, and leaves the rest of it.
+fn read_plan(records: &[Record], table: &mut [Cell])
+    requires { length records.now ≤ length table.old }
+    ensures { table.new ≡ map cell_of (map values_in records.now) ++ drop (length records.now) table.old }
+{
+    for (place, record) in records.iter().enumerate() {
+        table[place] = cell_of(record);
+    }
 }
 
 #[cfg(test)]
 mod tests {
     use super::*;
+    use plan::Kind;
 
     // The refusal's number and place, or 0 and the count.
     fn told(answer: Result<usize, Fault>) -> (u8, usize) {
@@ -167,7 +116,7 @@ mod tests {
     #[test]
     fn limit_there_and_back(rt: HostRuntime) {
         let limit = Cell {
-            kind: 2,
+            kind: Kind::GlobalLimit.into(),
             children: 1,
             mark: true,
             fetch: Some(5),
@@ -180,7 +129,7 @@ mod tests {
         let mut table = [Cell::BLANK; 1];
         assert_eq!(rt; told(unpack(&bytes[0..14], &mut table)), (0, 1));
         let [back] = table;
-        assert_eq!(rt; (back.kind, back.fetch, back.skip), (2, Some(5), 2));
+        assert_eq!(rt; (back.kind, back.fetch, back.skip), (Kind::GlobalLimit.into(), Some(5), 2));
         assert_eq!(rt; told(unpack(&bytes, &mut table)), (1, 0));
     }
 

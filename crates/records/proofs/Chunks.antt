@@ -1,8 +1,8 @@
 -- The records of a packed plan, one by one.
-use Rattle.std.proofs.Common.{◌≡◌, ℕ, zero, suc, ◌+◌, ◌-◌, ◌*◌, ◌/◌, ◌<◌, ◌≤◌, List, [], ◌∷◌, ◌++◌, map, length, get_or, take, drop, set, sym, refl, ap, ◌∙◌, arith}
+use Rattle.std.proofs.Common.{◌≡◌, ℕ, zero, suc, ◌+◌, ◌-◌, ◌*◌, ◌/◌, ◌<◌, ◌≤◌, List, [], ◌∷◌, ◌++◌, map, length, get_or, take, drop, sym, refl, ap, ◌∙◌, arith}
 use borrow.Rule.Slice.PartMut.{put_mid}
 use Rattle.std.proofs.lemmas.Slice.{take-put_mid, drop-put_mid}
-use Rattle.std.proofs.lemmas.List.{length-map, length-take, length-drop, length-append, append-nil, take_at, drop_at, get_or-map, drop-drop, drop_more, take_more, set_at, append_assoc}
+use Rattle.std.proofs.lemmas.List.{length-map, length-append, append-nil, drop-drop, take_more, append_assoc}
 use Rattle.plan.specs.declared.cells.Cell.{Cell}
 use Rattle.plan.specs.Cells.{blank}
 use Rattle.records.specs.Record.{record_size, packed, values_in, cell_of}

@@ -10,6 +10,9 @@ pub const RECORD: usize = 14;
 
 pub(crate) type Record = [u8; RECORD];
 
+// How many of a number's 16 bytes stand above those of a record.
+const ABOVE: usize = 16 - RECORD;
+
 // What 1 in each field adds to the number; extra, the last field, counts in ones.
 const KIND: u128 = 1 << 104;
 
@@ -29,12 +32,13 @@ const FETCH: u128 = 1 << 40;
 const NUMBERS: u128 = 1 << 40;
 
 // The number that a record's bytes write, most significant first.
+// Byte by byte, here and in `write_record`: `copy_from_slice` makes a detour over the stack, which takes twice as long.
 fn read_number(bytes: &Record) -> u128
     ensures { result ≡ joined (octets record_size) bytes.now }
 {
     let mut whole = [0; 16];
     for (place, byte) in bytes.iter().enumerate() {
-        whole[place + 2] = *byte;
+        whole[ABOVE + place] = *byte;
     }
     u128::from_be_bytes(whole)
 }
@@ -63,7 +67,7 @@ pub(crate) fn write_record(cell: &Cell, out: &mut [u8])
 {
     let bytes = number_of(cell).to_be_bytes();
     for (place, byte) in out.iter_mut().enumerate() {
-        *byte = bytes[place + 2];
+        *byte = bytes[ABOVE + place];
     }
 }
 

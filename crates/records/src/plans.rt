@@ -20,7 +20,9 @@ fn is_in_range(cell: &Cell) -> bool
     ensures { result ≡ in_range cell.now }
 {
     cell.fetch.is_none_or(|fetch| fetch <= MAX_NUMBER)
-        && cell.hint.is_none_or(|hint| hint <= MAX_NUMBER && cell.skip == 0)
+        && cell
+            .hint
+            .is_none_or(|hint| hint <= MAX_NUMBER && cell.skip == 0)
         && cell.skip <= MAX_NUMBER
 }
 
@@ -68,6 +70,16 @@ pub fn pack(cells: &[Cell], out: &mut [u8]) -> Result<usize, Fault>
     Ok(RECORD * cells.len())
 }
 
+// Writes the records' cells over the front of `table`, and leaves the rest of it.
+fn read_plan(records: &[Record], table: &mut [Cell])
+    requires { length records.now ≤ length table.old }
+    ensures { table.new ≡ map cell_of (map values_in records.now) ++ drop (length records.now) table.old }
+{
+    for (place, record) in records.iter().enumerate() {
+        table[place] = cell_of(record);
+    }
+}
+
 /// Unpacks a plan into the front of `table`, with blank cells behind it, and answers how many cells it has.
 /// Refused, in this order, with `table` as it was: `Packed` at 0 if the bytes are no whole records, `Packed` at the first record with
 /// a fetch but without its bit, `Room` at 0 if the cells do not suffice.
@@ -88,16 +100,6 @@ pub fn unpack(bytes: &[u8], table: &mut [Cell]) -> Result<usize, Fault>
     table.fill(Cell::BLANK);
     read_plan(records, table);
     Ok(records.len())
-}
-
-// Writes the records' cells over the front of `table`, and leaves the rest of it.
-fn read_plan(records: &[Record], table: &mut [Cell])
-    requires { length records.now ≤ length table.old }
-    ensures { table.new ≡ map cell_of (map values_in records.now) ++ drop (length records.now) table.old }
-{
-    for (place, record) in records.iter().enumerate() {
-        table[place] = cell_of(record);
-    }
 }
 
 #[cfg(test)]
@@ -129,7 +131,10 @@ mod tests {
         let mut table = [Cell::BLANK; 1];
         assert_eq!(rt; told(unpack(&bytes[0..14], &mut table)), (0, 1));
         let [back] = table;
-        assert_eq!(rt; (back.kind, back.fetch, back.skip), (Kind::GlobalLimit.into(), Some(5), 2));
+        assert_eq!(rt;
+            (back.kind, back.fetch, back.skip),
+            (Kind::GlobalLimit.into(), Some(5), 2)
+        );
         assert_eq!(rt; told(unpack(&bytes, &mut table)), (1, 0));
     }
 

@@ -6,7 +6,7 @@ use Rattle.plan.specs.declared.cells.Cell.{Cell}
 use Rattle.plan.specs.declared.refusals.Fault.{Fault}
 use Rattle.plan.specs.declared.refusals.Refusal.TheVariants.{Packed}
 use Rattle.plan.specs.Cells.{blank}
-use Rattle.records.specs.Record.{record_size, values_in, cell_of, sound}
+use Rattle.records.specs.Record.{record_size, cell_of, sound}
 use Rattle.records.specs.Plans.{plan_values, all_pass, packing, unpacking}
 use Rattle.plan.specs.Tables.{counted, laid}
 use Rattle.records.proofs.Passes.{pass_through}

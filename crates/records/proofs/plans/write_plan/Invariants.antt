@@ -8,5 +8,5 @@ abbrev pub invariant-loop-place : goal.invariant-loop-place
 invariant-loop-place l = record {
   written : take (record_size * l.place) l.out ≡ packed_plan (take l.place l.cells);
   left : drop (record_size * l.place) l.out ≡ drop (record_size * l.place) l.initial.out;
-  kinds : AllByRecursion (λ c. c.kind < 256) (take l.place l.cells)
+  kinds : AllByRecursion (λ c. c.kind < 256) (take l.place l.cells);
 }

@@ -118,12 +118,10 @@ mod tests {
     #[test]
     fn limit_there_and_back(rt: HostRuntime) {
         let limit = Cell {
-            kind: Kind::GlobalLimit.into(),
-            children: 1,
             mark: true,
             fetch: Some(5),
             skip: 2,
-            ..Cell::BLANK
+            ..Cell::new(Kind::GlobalLimit, 1, 0)
         };
         let mut bytes = [9; 15];
         assert_eq!(rt; told(pack(&[limit], &mut bytes)), (0, 14));

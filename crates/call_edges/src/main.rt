@@ -2,28 +2,23 @@
 #![tactic(auto)]
 
 use checks::Fact;
-use limits::{Pending, Rule, call};
+use limits::{Memory, Pending, Rule, call};
 use operators::CatalogueSet;
-use plan::Cell;
+use plan::{Cell, Kind, MAX_NUMBER};
 use std::alloc::{AllocError, Global};
 use std::io;
 
-const LARGEST: u64 = (1 << 40) - 1;
+const ROW: Kind = Kind::PlaceholderRow;
 
-fn node(kind: u8, children: u8, parameter: u32) -> Cell {
-    Cell {
-        kind,
-        children,
-        parameter,
-        ..Cell::BLANK
-    }
-}
+const SCAN: Kind = Kind::Operator(CatalogueSet::SCAN);
+
+const UNION: Kind = Kind::Operator(CatalogueSet::UNION);
 
 fn limit(skip: u64, fetch: u64) -> Cell {
     Cell {
         fetch: Some(fetch),
         skip,
-        ..node(2, 1, 0)
+        ..Cell::new(Kind::GlobalLimit, 1, 0)
     }
 }
 
@@ -51,58 +46,14 @@ impl Sizes {
 
 /// The cells, and blank ones behind them, cut or filled to a size.
 fn table_of(heap: Global, cells: &[Cell], size: usize) -> Result<Vec<Cell>, AllocError> {
-    let mut table = Vec::new(heap);
-    for cell in cells.iter().take(size) {
-        table.push(*cell)?;
-    }
-    for _ in cells.len()..size {
-        table.push(Cell::BLANK)?;
-    }
+    let mut table = Vec::from_slice(heap, cells)?;
+    table.resize(size, Cell::BLANK)?;
     Ok(table)
 }
 
-fn same_cells(a: &[Cell], b: &[Cell]) -> bool {
-    for (x, y) in a.iter().zip(b.iter()) {
-        if x != y {
-            return false;
-        }
-    }
-    a.len() == b.len()
-}
-
-fn blank_cells(cells: &[Cell]) -> bool {
-    for cell in cells {
-        if *cell != Cell::BLANK {
-            return false;
-        }
-    }
-    true
-}
-
-fn blank_facts(facts: &[Fact]) -> bool {
-    for fact in facts {
-        if fact.size > 0 || fact.partitions > 0 {
-            return false;
-        }
-    }
-    true
-}
-
-fn blank_entries(entries: &[Pending]) -> bool {
-    for entry in entries {
-        if entry.subtrees > 0 || entry.requirement.skip > 0 {
-            return false;
-        }
-    }
-    true
-}
-
-fn name(rule: Rule) -> &'static str {
-    match rule {
-        Rule::Sink => "sink",
-        Rule::Grow => "grow",
-        Rule::Hint => "hint",
-    }
+/// Whether every entry is this one.
+fn all_are<T: PartialEq>(items: &[T], blank: &T) -> bool {
+    items.iter().all(|item| item == blank)
 }
 
 fn told(holds: bool) -> &'static str {
@@ -132,28 +83,22 @@ fn try_call(
     let mut work = vec![in heap; limit(7, 7); sizes.work]?;
     let mut requirements = vec![in heap; dirt; sizes.requirements]?;
     let mut facts = vec![in heap; fact; sizes.facts]?;
-    let answer = call(
-        rule,
-        &CatalogueSet,
-        plan.as_mut_slice(),
-        count,
-        work.as_mut_slice(),
-        requirements.as_mut_slice(),
-        facts.as_mut_slice(),
-    );
-    let named = name(rule);
-    match answer {
-        Ok(nodes) => print!(rt; "{named}, {what}: {nodes} nodes")?,
+    let mut memory = Memory {
+        work: work.as_mut_slice(),
+        requirements: requirements.as_mut_slice(),
+        facts: facts.as_mut_slice(),
+    };
+    match call(rule, &CatalogueSet, plan.as_mut_slice(), count, &mut memory) {
+        Ok(nodes) => print!(rt; "{rule}, {what}: {nodes} nodes")?,
         Err(fault) => {
-            let number = fault.refusal.number();
-            let place = fault.place;
-            let kept = told(same_cells(plan.as_slice(), before.as_slice()));
-            print!(rt; "{named}, {what}: refused with {number} at {place}, untouched: {kept}")?;
+            let kept = told(plan.as_slice() == before.as_slice());
+            print!(rt; "{rule}, {what}: {fault}, untouched: {kept}")?;
         }
     }
-    let stacks = blank_facts(facts.as_slice()) && blank_entries(requirements.as_slice());
-    let blank = told(stacks && blank_cells(work.as_slice()));
-    println!(rt; ", memory blank: {blank}")
+    let blank = all_are(work.as_slice(), &Cell::BLANK)
+        && all_are(requirements.as_slice(), &Pending::BLANK)
+        && all_are(facts.as_slice(), &Fact::BLANK);
+    println!(rt; ", memory blank: {}", told(blank))
 }
 
 fn try_each(rt: &HostRuntime, what: &str, cells: &[Cell], sizes: Sizes) -> io::Result<()> {
@@ -164,7 +109,11 @@ fn try_each(rt: &HostRuntime, what: &str, cells: &[Cell], sizes: Sizes) -> io::R
 }
 
 fn rooms(rt: &HostRuntime) -> io::Result<()> {
-    let cells = [limit(2, 5), node(4, 1, 0), node(16, 0, 1)];
+    let cells = [
+        limit(2, 5),
+        Cell::new(Kind::Projection, 1, 0),
+        Cell::new(SCAN, 0, 1),
+    ];
     let exact = Sizes::of(3);
     try_each(rt, "exactly enough room", &cells, exact)?;
     try_each(rt, "a plan cell less", &cells, Sizes { plan: 5, ..exact })?;
@@ -193,15 +142,20 @@ fn rooms(rt: &HostRuntime) -> io::Result<()> {
 }
 
 fn refusals(rt: &HostRuntime) -> io::Result<()> {
-    let row = node(1, 0, 0);
-    let scan = node(16, 0, 2);
+    let row = Cell::new(ROW, 0, 0);
+    let scan = Cell::new(SCAN, 0, 2);
     let hinted = Cell {
         hint: Some(4),
-        ..node(9, 1, 0)
+        ..Cell::new(Kind::Aggregate, 1, 0)
     };
     try_each(rt, "no cells", &[], Sizes::of(1))?;
     try_each(rt, "an open tree", &[limit(0, 1)], Sizes::of(1))?;
-    try_each(rt, "kind 10", &[limit(0, 1), node(10, 0, 0)], Sizes::of(2))?;
+    try_each(
+        rt,
+        "kind 10",
+        &[limit(0, 1), Cell::new(Kind::Reserved(10), 0, 0)],
+        Sizes::of(2),
+    )?;
     try_each(
         rt,
         "a hint on a row",
@@ -226,75 +180,76 @@ fn refusals(rt: &HostRuntime) -> io::Result<()> {
         &[limit(2, 3), hinted, row],
         Sizes::of(3),
     )?;
-    let window = node(8, 1, 1);
+    let window = Cell::new(Kind::BoundedWindowAgg, 1, 1);
     try_each(
         rt,
         "windows that look ahead",
-        &[limit(0, 4), window, window, node(7, 1, 0), row],
+        &[
+            limit(0, 4),
+            window,
+            window,
+            Cell::new(Kind::Sort, 1, 0),
+            row,
+        ],
         Sizes::of(5),
     )
 }
 
 fn sums(rt: &HostRuntime) -> io::Result<()> {
-    let scan = node(16, 0, 1);
-    let aggregate = node(9, 1, 0);
-    let sort = node(7, 1, 0);
-    let window = node(8, 1, 1);
+    let scan = Cell::new(SCAN, 0, 1);
+    let aggregate = Cell::new(Kind::Aggregate, 1, 0);
+    let sort = Cell::new(Kind::Sort, 1, 0);
+    let window = Cell::new(Kind::BoundedWindowAgg, 1, 1);
     let four = Sizes::of(4);
     try_each(
         rt,
         "a sum of 2^40 - 1",
-        &[limit(1, LARGEST - 1), aggregate, scan],
+        &[limit(1, MAX_NUMBER - 1), aggregate, scan],
         Sizes::of(3),
     )?;
     try_each(
         rt,
         "a sum of 2^40",
-        &[limit(1, LARGEST), aggregate, scan],
+        &[limit(1, MAX_NUMBER), aggregate, scan],
         Sizes::of(3),
     )?;
     try_each(
         rt,
         "limit and look-ahead of 2^40 - 1",
-        &[limit(0, LARGEST - 3), window, sort, scan],
+        &[limit(0, MAX_NUMBER - 3), window, sort, scan],
         four,
     )?;
     try_each(
         rt,
         "limit and look-ahead of 2^40",
-        &[limit(0, LARGEST - 2), window, sort, scan],
+        &[limit(0, MAX_NUMBER - 2), window, sort, scan],
         four,
     )?;
     try_each(
         rt,
         "skips of 2^40",
-        &[limit(LARGEST, 1), limit(1, 1), sort, scan],
+        &[limit(MAX_NUMBER, 1), limit(1, 1), sort, scan],
         four,
     )
 }
 
-/// So many cells of a local limit over unions of placeholder rows: sink makes the most of it.
+/// A local limit over a union of placeholder rows: sink makes the most of it.
 fn swelling(rt: &HostRuntime) -> io::Result<()> {
-    let mut cells = Vec::new(rt.alloc());
-    cells.push(Cell {
+    let limit = Cell {
         fetch: Some(1),
-        ..node(3, 1, 0)
-    })?;
-    cells.push(node(18, 63, 0))?;
-    for _ in 0..63 {
-        cells.push(node(1, 0, 0))?;
-    }
+        ..Cell::new(Kind::LocalLimit, 1, 0)
+    };
+    let union = Cell::new(UNION, 63, 0);
+    let mut cells = Vec::from_slice(rt.alloc(), &[limit, union])?;
+    cells.resize(65, Cell::new(ROW, 0, 0))?;
     try_each(rt, "a union of 63 rows", cells.as_slice(), Sizes::of(65))
 }
 
 /// The longest path that a plan may have.
 fn longest(rt: &HostRuntime) -> io::Result<()> {
-    let mut cells = Vec::new(rt.alloc());
-    cells.push(limit(2, 5))?;
-    for _ in 0..4094 {
-        cells.push(node(4, 1, 0))?;
-    }
-    cells.push(node(16, 0, 1))?;
+    let mut cells = Vec::from_slice(rt.alloc(), &[limit(2, 5)])?;
+    cells.resize(4095, Cell::new(Kind::Projection, 1, 0))?;
+    cells.push(Cell::new(SCAN, 0, 1))?;
     try_each(
         rt,
         "a path of 4096 cells",

@@ -4,55 +4,30 @@ use checks::{Fact, check};
 use explain::describe;
 use limits::RuleCall;
 use operators::CatalogueSet;
-use plan::{Cell, Fault, Refusal};
-use records::{pack, unpack};
+use plan::{Cell, Fault};
+use records::{RECORD, pack, unpack};
 use std::alloc::{AllocError, Global};
+use std::fmt::Style;
 use std::io;
 use text::write_hex;
 use writing::{depths, write_plan};
 
-/// What a refusal means, in short.
-pub fn reason(refusal: Refusal) -> &'static str {
-    match refusal {
-        Refusal::Packed => "these bytes are no records",
-        Refusal::Count => "a plan has 1 to 4096 nodes",
-        Refusal::Room => "there is too little room",
-        Refusal::Tree => "the cells are not one tree",
-        Refusal::Fit => "kind, parameter and child count do not fit",
-        Refusal::Fields => "a number is too large, or stands where it has no place",
-        Refusal::Partitions => "a partition count is out of range",
-        Refusal::Hints => "the node above does not bear the hint out",
-        Refusal::Windows => "these windows cannot be added up",
-        Refusal::Sum => "a sum is too large",
-        Refusal::Declaration => "this declaration cannot be held",
-    }
-}
-
 fn show_fault(rt: &HostRuntime, fault: Fault) -> io::Result<()> {
-    let number = fault.refusal.number();
-    let place = fault.place;
-    let why = reason(fault.refusal);
-    println!(rt; "  refused with {number} at {place}: {why}")
+    println!(rt; "  {fault}: {}", fault.refusal)
 }
 
 /// A line of the tree, behind a front of two characters.
 pub fn show_cell(rt: &HostRuntime, front: &str, cell: &Cell, depth: usize) -> io::Result<()> {
     let line = describe(rt.alloc(), cell)?;
-    print!(rt; "{front}")?;
-    for _ in 0..depth {
-        print!(rt; "  ")?;
-    }
-    println!(rt; "{line}")
+    println!(rt; "{front}{}{line}", "".width(depth.saturating_mul(2)))
 }
 
 /// A line for each cell, further in for each node that it stands below, with an arrow at the refused one.
 fn show_tree(rt: &HostRuntime, cells: &[Cell], refused: Option<usize>) -> io::Result<()> {
     let levels = depths(rt.alloc(), cells)?;
-    let mut place = 0usize;
-    for (cell, depth) in cells.iter().zip(levels.iter()) {
+    for (place, (cell, depth)) in cells.iter().zip(levels.iter()).enumerate() {
         let front = if refused == Some(place) { "> " } else { "  " };
         show_cell(rt, front, cell, *depth)?;
-        place = place.saturating_add(1);
     }
     Ok(())
 }
@@ -79,7 +54,7 @@ fn show_checked(rt: &HostRuntime, cells: &[Cell]) -> io::Result<bool> {
 }
 
 fn show_bytes(rt: &HostRuntime, cells: &[Cell]) -> io::Result<()> {
-    let room = cells.len().saturating_mul(14);
+    let room = cells.len().saturating_mul(RECORD);
     let mut bytes = vec![in rt.alloc(); 0u8; room]?;
     match pack(cells, bytes.as_mut_slice()) {
         Ok(_) => {
@@ -113,7 +88,7 @@ pub fn show_packed(
     bytes: &[u8],
     calls: &mut [RuleCall],
 ) -> io::Result<()> {
-    let mut table = vec![in rt.alloc(); Cell::BLANK; bytes.len() / 14]?;
+    let mut table = vec![in rt.alloc(); Cell::BLANK; bytes.len() / RECORD]?;
     match unpack(bytes, table.as_mut_slice()) {
         Ok(_) => show_plan(rt, number, table.as_slice(), calls),
         Err(fault) => {

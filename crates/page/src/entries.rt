@@ -1,9 +1,8 @@
 // What a line of input holds.
-use crate::runs::rule_named;
 use limits::{Rule, RuleCall};
 use notation::read_plan;
 use plan::Cell;
-use std::alloc::{AllocError, Global};
+use std::alloc::{AllocError, AllocFailed, Global};
 use text::{Slip, read_hex};
 
 const PACKED: &str = "packed";
@@ -14,11 +13,38 @@ pub enum Entry {
     Packed(Vec<u8>),
 }
 
-/// The plan, and the words behind `>`, which name the rules to call.
-pub fn split_rules(line: &str) -> (&str, Option<&str>) {
-    match line.split_once('>') {
-        Some((plan, rules)) => (plan, Some(rules)),
-        None => (line, None),
+/// A plan, and the calls to make on it.
+#[derive(Drop)]
+pub struct Served {
+    pub entry: Entry,
+    pub calls: Vec<RuleCall>,
+}
+
+/// Why a line is not served.
+#[derive(Drop)]
+pub enum Trouble<'a> {
+    /// A word that names no rule.
+    Stray(&'a str),
+    /// A text that is no plan.
+    Slip(Slip),
+    NoMemory(AllocError),
+}
+
+impl From<Slip> for Trouble<'_> {
+    fn from(slip: Slip) -> Self {
+        Trouble::Slip(slip)
+    }
+}
+
+impl From<AllocError> for Trouble<'_> {
+    fn from(e: AllocError) -> Self {
+        Trouble::NoMemory(e)
+    }
+}
+
+impl<T: Drop> From<AllocFailed<T>> for Trouble<'_> {
+    fn from(e: AllocFailed<T>) -> Self {
+        Trouble::NoMemory(e.into())
     }
 }
 
@@ -27,42 +53,35 @@ pub fn is_passed_over(line: &str) -> bool {
     line.trim().is_empty() || line.starts_with('#')
 }
 
-/// The first word that names no rule.
-pub fn stray_word(rules: Option<&str>) -> Option<&str> {
-    for word in rules?.split_whitespace() {
-        if rule_named(word).is_none() {
-            return Some(word);
-        }
-    }
-    None
-}
-
-/// The rules to call: hint, sink and grow where none are named.
-pub fn read_calls(heap: Global, rules: Option<&str>) -> Result<Vec<RuleCall>, AllocError> {
+/// The calls of the rules that these words name, or the first word that names none.
+fn read_calls(heap: Global, words: &str) -> Result<Vec<RuleCall>, Trouble<'_>> {
     let mut calls = Vec::new(heap);
-    let Some(words) = rules else {
-        for rule in [Rule::Hint, Rule::Sink, Rule::Grow] {
-            calls.push(RuleCall { rule, answer: None })?;
-        }
-        return Ok(calls);
-    };
     for word in words.split_whitespace() {
-        if let Some(rule) = rule_named(word) {
-            calls.push(RuleCall { rule, answer: None })?;
-        }
+        let Ok(rule) = word.parse::<Rule>() else {
+            return Err(Trouble::Stray(word));
+        };
+        calls.push(RuleCall { rule, answer: None })?;
     }
     Ok(calls)
 }
 
-pub fn read_entry(heap: Global, line: &str) -> Result<Entry, Slip> {
-    let Some(hex) = line.strip_prefix(PACKED) else {
-        return Ok(Entry::Plan(read_plan(heap, line)?));
+fn read_entry(heap: Global, plan: &str) -> Result<Entry, Slip> {
+    let Some(hex) = plan.strip_prefix(PACKED) else {
+        return Ok(Entry::Plan(read_plan(heap, plan)?));
     };
     match read_hex(heap, hex) {
         Ok(bytes) => Ok(Entry::Packed(bytes)),
         Err(slip) => Err(Slip {
-            problem: slip.problem,
             column: slip.column.saturating_add(PACKED.len()),
+            ..slip
         }),
     }
+}
+
+/// The plan of a line, and the calls of the rules that it names behind `>`; hint, sink and grow where it names none.
+pub fn read_line(heap: Global, line: &str) -> Result<Served, Trouble<'_>> {
+    let (plan, rules) = line.split_once('>').unwrap_or((line, "hint sink grow"));
+    let calls = read_calls(heap, rules)?;
+    let entry = read_entry(heap, plan)?;
+    Ok(Served { entry, calls })
 }

@@ -9,24 +9,15 @@ mod entries;
 mod runs;
 
 use answers::{show_packed, show_plan};
-use entries::{Entry, is_passed_over, read_calls, read_entry, split_rules, stray_word};
+use entries::{Entry, Served, Trouble, is_passed_over, read_line};
+use std::fmt::Style;
 use std::io;
 use text::Slip;
 
-fn show_blanks(rt: &HostRuntime, count: usize) -> io::Result<()> {
-    for _ in 0..count {
-        print!(rt; " ")?;
-    }
-    Ok(())
-}
-
 fn show_slip(rt: &HostRuntime, place: usize, line: &str, slip: Slip) -> io::Result<()> {
-    let column = slip.column;
-    let problem = slip.problem;
-    println!(rt; "line {place}, column {column}: {problem}")?;
+    println!(rt; "line {place}, column {}: {}", slip.column, slip.problem)?;
     println!(rt; "  {line}")?;
-    show_blanks(rt, column.saturating_add(1))?;
-    println!(rt; "^")?;
+    println!(rt; "{}", "^".right().width(slip.column.saturating_add(2)))?;
     println!(rt; "")
 }
 
@@ -36,27 +27,30 @@ fn show_stray(rt: &HostRuntime, place: usize, line: &str, word: &str) -> io::Res
     println!(rt; "")
 }
 
+fn show_served(rt: &HostRuntime, number: usize, served: Served) -> io::Result<()> {
+    let Served { entry, mut calls } = served;
+    match entry {
+        Entry::Plan(cells) => show_plan(rt, number, &cells, calls.as_mut_slice()),
+        Entry::Packed(bytes) => show_packed(rt, number, &bytes, calls.as_mut_slice()),
+    }
+}
+
 // Serves a line, and gives the number of the last plan that was read.
 fn serve(rt: &HostRuntime, place: usize, line: &str, number: usize) -> io::Result<usize> {
     if is_passed_over(line) {
         return Ok(number);
     }
-    let next = number.saturating_add(1);
-    let (plan, rules) = split_rules(line);
-    if let Some(word) = stray_word(rules) {
-        show_stray(rt, place, line, word)?;
-        return Ok(number);
-    }
-    let mut calls = read_calls(rt.alloc(), rules)?;
-    match read_entry(rt.alloc(), plan) {
-        Ok(Entry::Plan(cells)) => show_plan(rt, next, &cells, calls.as_mut_slice())?,
-        Ok(Entry::Packed(bytes)) => show_packed(rt, next, &bytes, calls.as_mut_slice())?,
-        Err(slip) => {
-            show_slip(rt, place, line, slip)?;
-            return Ok(number);
+    match read_line(rt.alloc(), line) {
+        Ok(served) => {
+            let next = number.saturating_add(1);
+            show_served(rt, next, served)?;
+            return Ok(next);
         }
+        Err(Trouble::Stray(word)) => show_stray(rt, place, line, word)?,
+        Err(Trouble::Slip(slip)) => show_slip(rt, place, line, slip)?,
+        Err(Trouble::NoMemory(e)) => return Err(e.into()),
     }
-    Ok(next)
+    Ok(number)
 }
 
 fn main(rt: HostRuntime) -> io::Result<()> {

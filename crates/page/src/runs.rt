@@ -1,62 +1,27 @@
 // The rules called on a plan, and what they change.
-use crate::answers::{reason, show_cell};
+use crate::answers::show_cell;
 use checks::Fact;
-use limits::{Pending, Rule, RuleCall, run};
+use limits::{Memory, Pending, RuleCall, run};
 use operators::CatalogueSet;
-use plan::{Cell, Fault};
+use plan::Cell;
 use std::alloc::{AllocError, Global};
 use std::io;
 use writing::depths;
 
-fn name(rule: Rule) -> &'static str {
-    match rule {
-        Rule::Sink => "sink",
-        Rule::Grow => "grow",
-        Rule::Hint => "hint",
-    }
-}
-
-/// The rule of this name.
-pub fn rule_named(word: &str) -> Option<Rule> {
-    match word {
-        "sink" => Some(Rule::Sink),
-        "grow" => Some(Rule::Grow),
-        "hint" => Some(Rule::Hint),
-        _ => None,
-    }
-}
-
 fn show_call(rt: &HostRuntime, call: &RuleCall) -> io::Result<()> {
-    let rule = name(call.rule);
+    let rule = call.rule;
     match call.answer {
         Some(Ok(count)) => println!(rt; "  {rule}: {count} nodes"),
-        Some(Err(fault)) => show_refused(rt, rule, fault),
+        Some(Err(fault)) => println!(rt; "  {rule}: {fault}: {}", fault.refusal),
         None => println!(rt; "  {rule}: not called"),
     }
-}
-
-fn show_refused(rt: &HostRuntime, rule: &str, fault: Fault) -> io::Result<()> {
-    let number = fault.refusal.number();
-    let place = fault.place;
-    let why = reason(fault.refusal);
-    println!(rt; "  {rule}: refused with {number} at {place}: {why}")
-}
-
-/// Whether a cell stands in a plan.
-fn stands_in(cells: &[Cell], cell: &Cell) -> bool {
-    for other in cells {
-        if other == cell {
-            return true;
-        }
-    }
-    false
 }
 
 /// The tree, with a mark at each cell that the plan did not have before.
 fn show_changed(rt: &HostRuntime, before: &[Cell], after: &[Cell]) -> io::Result<()> {
     let levels = depths(rt.alloc(), after)?;
     for (cell, depth) in after.iter().zip(levels.iter()) {
-        let front = if stands_in(before, cell) { "  " } else { "* " };
+        let front = if before.contains(cell) { "  " } else { "* " };
         show_cell(rt, front, cell, *depth)?;
     }
     Ok(())
@@ -65,9 +30,7 @@ fn show_changed(rt: &HostRuntime, before: &[Cell], after: &[Cell]) -> io::Result
 /// A plan table with room for what the rules may add.
 fn table_of(heap: Global, cells: &[Cell]) -> Result<Vec<Cell>, AllocError> {
     let mut table = Vec::from_slice(heap, cells)?;
-    for _ in 0..cells.len().saturating_mul(7) {
-        table.push(Cell::BLANK)?;
-    }
+    table.resize(cells.len().saturating_mul(8), Cell::BLANK)?;
     Ok(table)
 }
 
@@ -79,14 +42,17 @@ pub fn show_run(rt: &HostRuntime, cells: &[Cell], calls: &mut [RuleCall]) -> io:
     let mut work = vec![in heap; Cell::BLANK; room]?;
     let mut requirements = vec![in heap; Pending::BLANK; room]?;
     let mut facts = vec![in heap; Fact::BLANK; room]?;
+    let mut memory = Memory {
+        work: work.as_mut_slice(),
+        requirements: requirements.as_mut_slice(),
+        facts: facts.as_mut_slice(),
+    };
     let count = run(
         &CatalogueSet,
         calls,
         table.as_mut_slice(),
         cells.len(),
-        work.as_mut_slice(),
-        requirements.as_mut_slice(),
-        facts.as_mut_slice(),
+        &mut memory,
     );
     for call in calls.iter() {
         show_call(rt, call)?;

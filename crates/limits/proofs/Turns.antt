@@ -1,17 +1,16 @@
 -- What a turn of sink's walk reads off its stacks, and what it leaves. Assumes nothing.
-use Rattle.std.proofs.Common.{◌≡◌, ℕ, ◌+◌, ◌-◌, ◌<◌, ◌≤◌, Bool, true, false, cond, List, [], ◌∷◌, ◌++◌, length, get_or, drop, replicate, Some, None, Ok, Err, Option, unwrap_or, Result, sym, refl, ap, ◌∙◌, subst, arith}
+use Rattle.std.proofs.Common.{◌≡◌, ℕ, zero, suc, ◌+◌, ◌-◌, ◌<◌, ◌≤◌, Bool, true, false, cond, List, [], ◌∷◌, ◌++◌, length, get_or, drop, replicate, Some, None, Ok, Err, Option, Result, sym, refl, ap, ◌∙◌, subst, arith}
 use Rattle.std.specs.Option.{option_to_list}
-use Rattle.std.proofs.lemmas.List.{append_assoc, length-append, length-replicate, length-drop}
+use Rattle.std.proofs.lemmas.List.{append_assoc, length-append, length-replicate}
 use Rattle.plan.specs.declared.cells.Cell.{Cell}
 use Rattle.plan.specs.declared.refusals.Fault.{Fault}
 use Rattle.plan.specs.declared.refusals.Refusal.TheVariants.{Sum}
 use Rattle.plan.specs.Cells.{blank}
 use Rattle.plan.specs.Refusals.{refused_at, then}
-use Rattle.plan.specs.Stacks.{first}
 use Rattle.operators.specs.Answers.{Answers}
 use Rattle.checks.specs.declared.facts.Fact.{Fact}
-use Rattle.checks.specs.Facts.{blank_fact, head_fact, fact_of, facts, every_fact}
-use Rattle.checks.proofs.Subtrees.{head_every, length_every}
+use Rattle.checks.specs.Facts.{head_fact, fact_of, facts, every_fact}
+use Rattle.checks.proofs.Subtrees.{head_every}
 use Rattle.checks.proofs.Walks.{cells_more}
 use Rattle.rows.specs.Sums.{too_large}
 use Rattle.rows.proofs.Passed.{Trees}
@@ -33,64 +32,49 @@ granted_by : (b : Bool) (p : ℕ) (s t : Stepped) → then (refusing b p) (λ _.
 granted_by true p s t e = absurd cc
 granted_by false p s t e = (refl, cc)
 
--- the first entry of a stack that has one, taken off
-taken_off : {T : Type 0} (xs ys : List T) (o : Option T) (x d : T) → 0 < length xs → xs ≡ option_to_list o ++ ys → o ≡ first xs → x ≡ unwrap_or o d → xs ≡ x ∷ ys
-taken_off [] ys o x d h e f t = absurd (omega arith)
-taken_off (y ∷ xs) ys o x d h e f t = e ∙ ap (λ p. option_to_list p ++ ys) f ∙ ap (λ z. z ∷ ys) (sym (t ∙ ap (λ p. unwrap_or p d) f))
+-- the fact at a place is that of the subtree there
+fact_at : (a : Answers) (cells : List Cell) (p : ℕ) → head_fact (drop p (every_fact a cells)) ≡ head_fact (facts a (drop p cells))
+unfolding every_fact
+fact_at a cells zero = head_every a cells
+fact_at a [] (suc p) = head_every a []
+fact_at a (c ∷ cells) (suc p) = fact_at a cells p
 
-head_peeked : (ks : List Fact) → unwrap_or (first ks) blank_fact ≡ head_fact ks
-head_peeked [] = refl
-head_peeked (k ∷ ks) = refl
-
--- a turn at a place: the requirement and the fact that it takes off, the fact that it reads behind them, and what the step answers
-pub record Turn (a : Answers) (cells : List Cell) (p : ℕ) (rs qs : List GlobalRequirements) (r : GlobalRequirements) (ks ls : List Fact) (own child : Fact) (result : Result Stepped Fault) : Type 0 where
+-- a turn at a place: the requirement that it takes off, the facts there and behind, and what the step answers
+pub record Turn (a : Answers) (cells : List Cell) (p : ℕ) (rs qs : List GlobalRequirements) (r : GlobalRequirements) (own child : Fact) (result : Result Stepped Fault) : Type 0 where
   pub more : p < length cells
   pub taken : rs ≡ r ∷ qs
-  pub known : ks ≡ every_fact a (drop p cells)
-  pub popped : ks ≡ own ∷ ls
-  pub first : child ≡ head_fact ls
+  pub there : own ≡ head_fact (facts a (drop p cells))
+  pub next : child ≡ head_fact (facts a (drop (p + 1) cells))
   pub stepping : result ≡ then (sum_answer p (sink_sum r (get_or cells p blank))) (λ _. Ok (stepped a r (get_or cells p blank) own.partitions child))
 
-pub turn : (a : Answers) (cells : List Cell) (p : ℕ) (rs qs : List GlobalRequirements) (r : GlobalRequirements) (ks ls : List Fact) (own child : Fact) (result : Result Stepped Fault) (o b : Option Fact)
-    → p < length cells → rs ≡ r ∷ qs → ks ≡ every_fact a (drop p cells)
-    → ks ≡ option_to_list o ++ ls → o ≡ first ks → own ≡ unwrap_or o blank_fact → b ≡ first ls → child ≡ unwrap_or b blank_fact
+pub turn : (a : Answers) (cells : List Cell) (p : ℕ) (rs qs : List GlobalRequirements) (r : GlobalRequirements) (known : List Fact) (own child : Fact) (result : Result Stepped Fault)
+    → p < length cells → rs ≡ r ∷ qs → known ≡ every_fact a cells → own ≡ head_fact (drop p known) → child ≡ head_fact (drop (p + 1) known)
     → result ≡ then (sum_answer p (sink_sum r (get_or cells p blank))) (λ _. Ok (stepped a r (get_or cells p blank) own.partitions child))
-    → Turn a cells p rs qs r ks ls own child result
-turn a cells p rs qs r ks ls own child result o b more taken known rest value own_is peeked child_is stepping =
-    let some : 0 < length ks = (let n = ap length known in let m = length_every a (drop p cells) in let l = length-drop p cells in omega arith) in record {
-      more = more;
-      taken = taken;
-      known = known;
-      popped = taken_off ks ls o own blank_fact some rest value own_is;
-      first = child_is ∙ ap (λ x. unwrap_or x blank_fact) peeked ∙ head_peeked ls;
-      stepping = stepping;
-    }
+    → Turn a cells p rs qs r own child result
+turn a cells p rs qs r known own child result more taken whole there next stepping = record {
+  more = more;
+  taken = taken;
+  there = there ∙ ap (λ ks. head_fact (drop p ks)) whole ∙ fact_at a cells p;
+  next = next ∙ ap (λ ks. head_fact (drop (p + 1) ks)) whole ∙ fact_at a cells (p + 1);
+  stepping = stepping;
+}
 
-module _ {a : Answers} {cells : List Cell} {p : ℕ} {rs qs : List GlobalRequirements} {r : GlobalRequirements} {ks ls : List Fact} {own child : Fact} {result : Result Stepped Fault} (t : Turn a cells p rs qs r ks ls own child result) where
+module _ {a : Answers} {cells : List Cell} {p : ℕ} {rs qs : List GlobalRequirements} {r : GlobalRequirements} {own child : Fact} {result : Result Stepped Fault} (t : Turn a cells p rs qs r own child result) where
   abbrev here : Cell
   here = get_or cells p blank
 
   abbrev behind : List Cell
   behind = drop (p + 1) cells
 
-  whole : own ∷ ls ≡ fact_of a here (facts a behind) ∷ every_fact a behind
-  unfolding every_fact facts
-  whole = sym t.popped ∙ t.known ∙ ap (every_fact a) (cells_more cells p t.more)
-
-  pub rest_known : ls ≡ every_fact a behind
-  rest_known = let w = whole in cc
-
   own_is : own ≡ fact_of a here (facts a behind)
-  own_is = let w = whole in cc
-
-  child_is : child ≡ head_fact (facts a behind)
-  child_is = t.first ∙ ap head_fact rest_known ∙ head_every a behind
+  unfolding facts
+  own_is = t.there ∙ ap (λ cs. head_fact (facts a cs)) (cells_more cells p t.more)
 
   abbrev truly : Stepped
   truly = stepped a r here (fact_of a here (facts a behind)).partitions (head_fact (facts a behind))
 
   stepping_truly : result ≡ then (sum_answer p (sink_sum r here)) (λ _. Ok truly)
-  stepping_truly = t.stepping ∙ (λ i. then (sum_answer p (sink_sum r here)) (λ _. Ok (stepped a r here (own_is i).partitions (child_is i))))
+  stepping_truly = t.stepping ∙ (λ i. then (sum_answer p (sink_sum r here)) (λ _. Ok (stepped a r here (own_is i).partitions (t.next i))))
 
   abbrev rest_sums : Result (Unit {0}) Fault
   rest_sums = sink_sums_from a (replicate here.children truly.next ++ qs) (p + 1) behind

@@ -35,11 +35,10 @@ fn rewrite<O: OperatorSet>(
     ensures answer { front_of work.new result ≡ then (plan_answer (O.OperatorSet.answers set.now) cells.now) (λ _. rule_answer (O.OperatorSet.answers set.now) rule cells.now) }
     ensures twice { IfOk result (λ n. n ≤ 2 * length cells.now) }
 {
-    let mut pending = Stack::new(requirements);
     let mut known = Stack::new(facts);
     accept(set, cells, cells.len(), &mut known)?;
     match rule {
-        Rule::Sink => sink_cells(set, cells, work, &mut pending, &mut known),
+        Rule::Sink => sink_cells(set, cells, work, requirements, &known),
         Rule::Grow => grow_cells(set, cells, work),
         Rule::Hint => hint_cells(set, cells, work),
     }

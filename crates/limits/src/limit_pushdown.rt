@@ -1,5 +1,5 @@
 // Sink: limits go down a plan as far as they can.
-ghost use Rattle.std.specs.Prelude.{◌≡◌, ◌+◌, ◌*◌, ◌^◌, ◌<◌, ◌≤◌, false, [], ◌∷◌, ◌++◌, length, take, IfOk, Some, Ok};
+ghost use Rattle.std.specs.Prelude.{◌≡◌, ◌+◌, ◌*◌, ◌^◌, ◌<◌, ◌≤◌, false, ◌++◌, length, IfOk, Some, Ok};
 ghost use Rattle.std.specs.Option.{option_to_list};
 ghost use Rattle.plan.specs.Kinds.{is_limit};
 ghost use Rattle.plan.specs.Numbers.{max_number};
@@ -315,30 +315,30 @@ pub(super) fn sink_cells<O: OperatorSet>(
     set: &O,
     cells: &[Cell],
     work: &mut [Cell],
-    pending: &mut Stack<Pending>,
-    known: &mut Stack<Fact>,
+    requirements: &mut [Pending],
+    known: &Stack<Fact>,
 ) -> Result<usize, Fault>
     requires accepted { Accepted (O.OperatorSet.answers set.now) cells.now }
     requires work { 2 * length cells.now ≤ length work.old }
-    requires pending { content pending.old ≡ [] }
-    requires room { length cells.now ≤ length pending.old.items.now }
-    requires facts { content known.old ≡ every_fact (O.OperatorSet.answers set.now) cells.now }
+    requires requirements { length cells.now ≤ length requirements.old }
+    requires facts { content known.now ≡ every_fact (O.OperatorSet.answers set.now) cells.now }
     ensures answer { front_of work.new result ≡ rule_answer (O.OperatorSet.answers set.now) Sink cells.now }
     ensures few { IfOk result (λ n. n ≤ 2 * length cells.now) }
 {
-    hand_down(pending, GlobalRequirements::FIRST, 1);
+    let mut pending = Stack::new(requirements);
+    hand_down(&mut pending, GlobalRequirements::FIRST, 1);
     let mut written = Written {
         table: work,
         count: 0,
     };
     for (place, cell) in cells.iter().enumerate() {
-        let requirement = next_requirement(pending);
-        let own = known.pop().unwrap_or(Fact::BLANK);
-        let child = known.peek(0).unwrap_or(Fact::BLANK);
+        let requirement = next_requirement(&mut pending);
+        let own = Fact::at(known, place);
+        let child = Fact::at(known, place + 1);
         let Stepped { above, node, next } = step(set, requirement, cell, own, child, place)?;
         written.put(above);
         written.put(node);
-        hand_down(pending, next, cell.children);
+        hand_down(&mut pending, next, cell.children);
     }
     Ok(written.count)
 }

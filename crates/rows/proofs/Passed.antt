@@ -13,7 +13,7 @@ use Rattle.checks.specs.Tree.{tree_from, tree_of}
 use Rattle.checks.specs.Cells.{fit_cell, fields_cell, hint_cell, singly_from, singly}
 use Rattle.checks.specs.Facts.{head_fact, facts, miscounted, counted_from}
 use Rattle.checks.specs.Windows.{window_refused, below_after, windows_from}
-use Rattle.checks.specs.Accepts.{root_partitions, plan_answer, Accepted}
+use Rattle.checks.specs.Accepts.{root_partitions, Accepted}
 
 abbrev Answer : Type 0
 Answer = Result (Unit {0}) Fault

@@ -8,19 +8,18 @@ use Rattle.limits.specs.declared.pending.Pending.{Pending}
 use Rattle.limits.specs.Pending.{spread}
 use Rattle.limits.specs.Written.{written}
 use Rattle.limits.proofs.Steps.{fields_at, trees_within, spread_within, spread_some, room_left, trees_next}
-use Rattle.limits.proofs.Turns.{turn, rest_known, turn_refused, turn_range, turn_sums, turn_cells, turn_trees, at_most_one}
+use Rattle.limits.proofs.Turns.{turn, turn_refused, turn_range, turn_sums, turn_cells, turn_trees, at_most_one}
 use Rattle.limits.proofs.limit_pushdown.sink_cells.Goals as goal
 
 pub loop-place-init : goal.loop-place-init
 loop-place-init g c =
     let a = g.O.OperatorSet.answers c.args.set.now in
     let cells = c.args.cells.now in
-    let first : spread (content c.hand_down.new.pending) ≡ at_first ∷ [] = c.hand_down.ensures.given ∙ ap (λ (ps : List Pending). at_first ∷ spread ps) c.requires.pending in
+    let first : spread (content c.hand_down.new.pending) ≡ at_first ∷ [] = c.hand_down.ensures.given ∙ ap (λ (ps : List Pending). at_first ∷ spread ps) c.new-pending.ensures.content in
     record {
       room = refl;
       live = c.hand_down.ensures.live;
       trees = subst (λ rs. Trees (length rs) cells) (sym first) (passed a cells c.requires.accepted).tree;
-      known = c.requires.facts;
       loan = refl;
       len = refl;
       few = omega arith;
@@ -41,16 +40,16 @@ step-requires-clause-cell g c =
 pub returns-in_err-above-clause-answer : goal.returns-in_err-above-clause-answer
 returns-in_err-above-clause-answer g c =
     let a = g.O.OperatorSet.answers c.args.set.now in
-    let t = turn a c.args.cells.now c.loop-place.place (spread (content c.loop-place.pending)) (spread (content c.next_requirement-requirement.new.pending)) c.next_requirement-requirement.result (content c.loop-place.known) (content c.pop.new.self) c.unwrap_or-own.result c.unwrap_or-child.result c.step.result c.pop.result c.peek.result
-    c.loop-place-test.true c.next_requirement-requirement.ensures.taken c.loop-place.invariant.known c.pop.ensures.content c.pop.ensures.value c.unwrap_or-own.ensures c.peek.ensures c.unwrap_or-child.ensures c.step.ensures in
+    let t = turn a c.args.cells.now c.loop-place.place (spread (content c.loop-place.pending)) (spread (content c.next_requirement-requirement.new.pending)) c.next_requirement-requirement.result (content c.args.known.now) c.at-own.result c.at-child.result c.step.result
+    c.loop-place-test.true c.next_requirement-requirement.ensures.taken c.requires.facts c.at-own.ensures c.at-child.ensures c.step.ensures in
     let sums : sink_sums a c.args.cells.now ≡ Err c.in_err-above.field-0.0 = sym c.loop-place.invariant.sums ∙ turn_refused t c.in_err-above.field-0.0 c.in_err-above.was in
     grind arith
 
 pub hand_down-requires-in-loop-place-clause-small : goal.hand_down-requires-in-loop-place-clause-small
 hand_down-requires-in-loop-place-clause-small g c =
     let a = g.O.OperatorSet.answers c.args.set.now in
-    let t = turn a c.args.cells.now c.loop-place.place (spread (content c.loop-place.pending)) (spread (content c.next_requirement-requirement.new.pending)) c.next_requirement-requirement.result (content c.loop-place.known) (content c.pop.new.self) c.unwrap_or-own.result c.unwrap_or-child.result c.step.result c.pop.result c.peek.result
-    c.loop-place-test.true c.next_requirement-requirement.ensures.taken c.loop-place.invariant.known c.pop.ensures.content c.pop.ensures.value c.unwrap_or-own.ensures c.peek.ensures c.unwrap_or-child.ensures c.step.ensures in
+    let t = turn a c.args.cells.now c.loop-place.place (spread (content c.loop-place.pending)) (spread (content c.next_requirement-requirement.new.pending)) c.next_requirement-requirement.result (content c.args.known.now) c.at-own.result c.at-child.result c.step.result
+    c.loop-place-test.true c.next_requirement-requirement.ensures.taken c.requires.facts c.at-own.ensures c.at-child.ensures c.step.ensures in
     let fields = fields_at a c.args.cells.now c.loop-place.place (passed a c.args.cells.now c.requires.accepted).fields c.loop-place-test.true in
     turn_range t c.in_ok-above.field-0 c.in_ok-above.was c.next_requirement-requirement.ensures.small fields.1
 
@@ -64,14 +63,15 @@ hand_down-requires-in-loop-place-clause-room g c =
     let few = spread_within held c.next_requirement-requirement.ensures.live in
     let free = room_left c.next_requirement-requirement.new.pending in
     let size = c.next_requirement-requirement.ensures.len ∙ c.loop-place.invariant.room ∙ c.hand_down.ensures.len in
-    let enough = c.requires.room in
+    let enough = c.requires.requirements in
+    let lent = ap length c.new-pending.ensures.items in
     λ h. omega arith
 
 pub loop-place-preserved : goal.loop-place-preserved
 loop-place-preserved g c =
     let a = g.O.OperatorSet.answers c.args.set.now in
-    let t = turn a c.args.cells.now c.loop-place.place (spread (content c.loop-place.pending)) (spread (content c.next_requirement-requirement.new.pending)) c.next_requirement-requirement.result (content c.loop-place.known) (content c.pop.new.self) c.unwrap_or-own.result c.unwrap_or-child.result c.step.result c.pop.result c.peek.result
-    c.loop-place-test.true c.next_requirement-requirement.ensures.taken c.loop-place.invariant.known c.pop.ensures.content c.pop.ensures.value c.unwrap_or-own.ensures c.peek.ensures c.unwrap_or-child.ensures c.step.ensures in
+    let t = turn a c.args.cells.now c.loop-place.place (spread (content c.loop-place.pending)) (spread (content c.next_requirement-requirement.new.pending)) c.next_requirement-requirement.result (content c.args.known.now) c.at-own.result c.at-child.result c.step.result
+    c.loop-place-test.true c.next_requirement-requirement.ensures.taken c.requires.facts c.at-own.ensures c.at-child.ensures c.step.ensures in
     let s = c.in_ok-above.field-0 in
     let ok = c.in_ok-above.was in
     let new = spread (content c.hand_down-in-loop-place.new.pending) in
@@ -80,7 +80,6 @@ loop-place-preserved g c =
       room = c.hand_down-in-loop-place.ensures.len ∙ c.next_requirement-requirement.ensures.len ∙ c.loop-place.invariant.room;
       live = c.hand_down-in-loop-place.ensures.live;
       trees = turn_trees t s ok new given c.loop-place.invariant.trees;
-      known = rest_known t;
       loan = c.put-in-loop-place.ensures.loan ∙ c.put.ensures.loan ∙ c.loop-place.invariant.loan;
       len = c.put-in-loop-place.ensures.len ∙ c.put.ensures.len ∙ c.loop-place.invariant.len;
       few = (let one = at_most_one s.above in let two = at_most_one s.node in let n = c.put.ensures.count in let m = c.put-in-loop-place.ensures.count in let low = c.loop-place.invariant.few in omega arith);

@@ -1,6 +1,5 @@
 use Rattle.std.proofs.Common.{◌≡◌, ◌*◌, ◌≤◌, ◌++◌, length, drop}
 use Rattle.plan.specs.Stacks.{content}
-use Rattle.checks.specs.Facts.{every_fact}
 use Rattle.rows.proofs.Passed.{Trees}
 use Rattle.sinks.specs.Sink.{sunk, sunk_plan, sink_sums_from, sink_sums}
 use Rattle.limits.specs.Pending.{spread, Live}
@@ -16,7 +15,6 @@ invariant-loop-place g l =
       room : length l.pending.items.now ≡ length l.initial.pending.items.now;
       live : Live (content l.pending);
       trees : Trees (length rs) rest;
-      known : content l.known ≡ every_fact a rest;
       loan : l.written.table.ghost_name ≡ l.initial.written.table.ghost_name;
       len : length l.written.table.now ≡ length l.initial.written.table.now;
       few : l.written.count ≤ 2 * l.place;

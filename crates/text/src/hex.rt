@@ -11,7 +11,7 @@ fn digit_value(byte: u8) -> Option<u8>
     ensures small { IfSome result (λ d. d < 16) }
 {
     let value = char::from(byte).to_digit(16)?;
-    Some(value as u8)
+    u8::try_from(value).ok()
 }
 
 /// A space or a tab.

@@ -15,7 +15,7 @@ use std::io;
 use text::Slip;
 
 fn show_slip(rt: &HostRuntime, place: usize, line: &str, slip: Slip) -> io::Result<()> {
-    println!(rt; "line {place}, column {}: {}", slip.column, slip.problem)?;
+    println!(rt; "line {place}, {slip}")?;
     println!(rt; "  {line}")?;
     println!(rt; "{}", "^".right().width(slip.column.saturating_add(2)))?;
     println!(rt; "")

@@ -1,3 +1,2 @@
-mod Entries
 mod Small
 mod Repeats

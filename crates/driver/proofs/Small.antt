@@ -1,5 +1,6 @@
 -- Expressions with small numbers, and windows cut from them. Assumes nothing.
-use Rattle.std.proofs.Common.{◌≡◌, ℕ, zero, suc, ◌+◌, ◌≤◌, min, Bool, true, false, cond, ◌&&◌, eqb, leb, List, [], ◌∷◌, map, length, take, drop, refl, arith, le-leb, leb-true}
+use Rattle.std.proofs.Common.{◌≡◌, ℕ, zero, suc, ◌+◌, ◌-◌, ◌≤◌, min, Bool, true, false, cond, ◌&&◌, eqb, leb, List, [], ◌∷◌, map, length, take, drop, sym, refl, subst, arith, le-leb, leb-true}
+use Rattle.std.specs.List.{slice_range}
 use Rattle.std.proofs.lemmas.List.{length-take, length-drop}
 use Rattle.std.proofs.lemmas.Bool.{and_parts, and_from}
 use Rattle.plan.specs.Numbers.{max_number}
@@ -26,7 +27,7 @@ small_part (suc width) (suc from) (e ∷ es) h =
     small_part (suc width) from es (and_parts both (all_small es) h).1
 
 -- a window that lies within the expressions
-pub window_sized : (es : List WindowExpr) (width from : ℕ) → sized es width ≡ true → from + width ≤ length es → WindowSized (take width (drop from es))
+pub window_sized : (es : List WindowExpr) (width from : ℕ) → sized es width ≡ true → from + width ≤ length es → WindowSized (slice_range es from (from + width))
 window_sized es width from h fits =
     let p = and_parts (leb 1 width && leb width 16) (all_small es) h in
     let q = and_parts (leb 1 width) (leb width 16) p.0 in
@@ -34,7 +35,8 @@ window_sized es width from h fits =
     let few = leb-true width 16 q.1 in
     let long = length-take width (drop from es) in
     let left = length-drop from es in
-    record { some = omega arith; few = omega arith; small = small_part width from es p.1 }
+    let whole : from + width - from ≡ width = omega arith in
+    subst (λ (n : ℕ). WindowSized (take n (drop from es))) (sym whole) (record { some = omega arith; few = omega arith; small = small_part width from es p.1 })
 
 -- numbers that are read are cut down
 

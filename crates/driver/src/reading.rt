@@ -73,13 +73,15 @@ fn bound_of(end: u8, number: u64) -> FrameBound
 }
 
 /// A number that is too large is cut down to the largest.
-pub(super) fn expr_of(row: &ExprRow) -> WindowExpr
-    ensures { result ≡ expr_of row.now }
-{
-    WindowExpr {
-        effect: limit_effect_of(row.effect, row.effect_number.min(MAX_NUMBER)),
-        units: units_of(row.units),
-        end_bound: bound_of(row.end, row.end_number.min(MAX_NUMBER)),
+impl From<ExprRow> for WindowExpr {
+    ghost from_gives = { λ row expr. expr ≡ expr_of row };
+
+    fn from(row: ExprRow) -> WindowExpr {
+        WindowExpr {
+            effect: limit_effect_of(row.effect, row.effect_number.min(MAX_NUMBER)),
+            units: units_of(row.units),
+            end_bound: bound_of(row.end, row.end_number.min(MAX_NUMBER)),
+        }
     }
 }
 
@@ -94,14 +96,16 @@ fn shape_of(number: u8, partitions: u32) -> Shape
     }
 }
 
-pub(super) fn declaration_of(row: &DeclarationRow) -> Declaration
-    ensures { result ≡ declaration_of row.now }
-{
-    Declaration {
-        kind: row.kind,
-        shape: shape_of(row.shape, row.number),
-        fetch: row.fetch,
-        mark: row.mark,
-        effect: effect_of(row.effect),
+impl From<DeclarationRow> for Declaration {
+    ghost from_gives = { λ row declaration. declaration ≡ declaration_of row };
+
+    fn from(row: DeclarationRow) -> Declaration {
+        Declaration {
+            kind: row.kind,
+            shape: shape_of(row.shape, row.number),
+            fetch: row.fetch,
+            mark: row.mark,
+            effect: effect_of(row.effect),
+        }
     }
 }

@@ -70,8 +70,5 @@ fn repeat_on(times: usize, rule: Rule, plan: &[u8]) -> Result<usize, Fault>
 pub extern "C" fn driver_repeat(rule: u8, plan: &[u8], times: usize) -> usize
     ensures { result ≡ repeated_count times (rule_of rule) plan.now }
 {
-    match repeat_on(times, rule_of(rule), plan) {
-        Ok(count) => count,
-        Err(_) => 0,
-    }
+    repeat_on(times, rule_of(rule), plan).unwrap_or(0)
 }

@@ -9,29 +9,28 @@ use operators::{
     CardinalityEffect, KnownEmpty, LimitsPass, OperatorSet, PartitionCount, WindowExpr,
 };
 
-/// The first row of a kind, if there is one.
-fn find(rows: &[OperatorRow], kind: u8) -> Option<OperatorRow>
-    ensures { result ≡ row_of rows.now kind }
-{
-    for row in rows {
-        if row.kind == kind {
-            return Some(*row);
-        }
-    }
-    None
-}
+/// What is read past the end of the groups.
+const NO_GROUP: GroupRow = GroupRow {
+    group: 0,
+    plain: false,
+};
 
-/// The row of an aggregate's parameter; past the end group 0, and not plain.
-fn group_at(groups: &[GroupRow], parameter: u32) -> GroupRow
-    ensures { result ≡ slice_index_or groups.now parameter no_group }
-{
-    let place = parameter as usize;
-    if place < groups.len() {
-        return groups[place];
+impl TableSet<'_> {
+    /// The first row of a kind, if there is one.
+    fn row(&self, kind: u8) -> Option<OperatorRow>
+        ensures { result ≡ row_of self.now.operators.now kind }
+    {
+        self.operators.iter().find(|row| row.kind == kind).copied()
     }
-    GroupRow {
-        group: 0,
-        plain: false,
+
+    /// The row of an aggregate's parameter; past the end group 0, and not plain.
+    fn group_row(&self, parameter: u32) -> GroupRow
+        ensures { result ≡ slice_index_or self.now.groups.now parameter no_group }
+    {
+        self.groups
+            .get(parameter as usize)
+            .copied()
+            .unwrap_or(NO_GROUP)
     }
 }
 
@@ -39,70 +38,57 @@ impl OperatorSet for TableSet<'_> {
     ghost answers = { λ s. table_answers s.operators.now s.exprs.now s.width s.groups.now };
 
     fn fits(&self, kind: u8, _parameter: u32, children: u8) -> bool {
-        if kind < 16 {
-            return true;
-        }
-        match find(self.operators, kind) {
-            Some(row) => row.least <= children && children <= row.most,
-            None => false,
-        }
+        kind < 16
+            || self
+                .row(kind)
+                .is_some_and(|row| row.least <= children && children <= row.most)
     }
 
     fn limits_pass(&self, kind: u8, _parameter: u32) -> LimitsPass {
-        match find(self.operators, kind) {
+        match self.row(kind) {
             Some(row) if row.passes => LimitsPass::RowForRow,
             _ => LimitsPass::No,
         }
     }
 
     fn takes_fetch(&self, kind: u8, _parameter: u32) -> bool {
-        match find(self.operators, kind) {
-            Some(row) => row.fetch,
-            None => false,
-        }
+        self.row(kind).is_some_and(|row| row.fetch)
     }
 
     fn takes_mark(&self, kind: u8, _parameter: u32) -> bool {
-        match find(self.operators, kind) {
-            Some(row) => row.mark,
-            None => false,
-        }
+        self.row(kind).is_some_and(|row| row.mark)
     }
 
     fn effect(&self, kind: u8, _parameter: u32) -> CardinalityEffect {
-        match find(self.operators, kind) {
-            Some(row) => effect_of(row.effect),
-            None => CardinalityEffect::Unknown,
-        }
+        self.row(kind)
+            .map_or(CardinalityEffect::Unknown, |row| effect_of(row.effect))
     }
 
     fn partitions(&self, kind: u8, _parameter: u32) -> PartitionCount {
-        match find(self.operators, kind) {
+        match self.row(kind) {
             Some(row) if row.fixed => PartitionCount::Fixed(row.partitions),
             _ => PartitionCount::Sum,
         }
     }
 
     fn known_empty(&self, kind: u8, _parameter: u32) -> KnownEmpty {
-        match find(self.operators, kind) {
-            Some(row) => known_empty_of(row.known_empty),
-            None => KnownEmpty::Never,
-        }
+        self.row(kind)
+            .map_or(KnownEmpty::Never, |row| known_empty_of(row.known_empty))
     }
 
     fn window(&self, parameter: u32) -> &[WindowExpr] {
         let first = parameter as usize * self.width;
-        if self.exprs.len() < first + self.width {
-            return WindowExpr::UNKNOWN;
+        match self.exprs.get(first..first + self.width) {
+            Some(window) => window,
+            None => WindowExpr::UNKNOWN,
         }
-        &self.exprs[first..first + self.width]
     }
 
     fn group(&self, parameter: u32) -> u32 {
-        group_at(self.groups, parameter).group
+        self.group_row(parameter).group
     }
 
     fn plain_distinct(&self, parameter: u32) -> bool {
-        group_at(self.groups, parameter).plain
+        self.group_row(parameter).plain
     }
 }

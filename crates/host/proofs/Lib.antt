@@ -1,1 +1,1 @@
-mod Converting
+mod Links

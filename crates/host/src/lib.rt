@@ -2,7 +2,6 @@
 #![tactic(auto)]
 
 mod chains;
-mod convert;
 mod exports;
 
 pub use chains::shows_chains;

@@ -42,14 +42,14 @@ room_told false e = refl
 
 module _ (a : Answers) (rule : Rule) (bytes : List ℕ) (room : ℕ) where
   -- where the call is reached, it decides
-  pub record Reached (table : List Cell) (count : ℕ) (lent : Lent) : Type 0 where
+  record Reached (table : List Cell) (count : ℕ) (lent : Lent) : Type 0 where
     pub cells : List Cell
     pub held : unpacked bytes ≡ Ok cells
     pub counts : count ≡ length cells
     pub roomy : node_room * count ≤ room
     pub answer : unpacked_answer a rule bytes room ≡ call_answer a rule table count lent
 
-  pub reached : (before table : List Cell) (count work requirements facts : ℕ) → 2 * (length bytes / record_size) ≤ length before → 2 * (length bytes / record_size) ≤ work
+  reached : (before table : List Cell) (count work requirements facts : ℕ) → 2 * (length bytes / record_size) ≤ length before → 2 * (length bytes / record_size) ≤ work
       → length bytes / record_size ≤ requirements → length bytes / record_size ≤ facts → Ok count ≡ counted (unpacking bytes (length before)) → table ≡ laid blank (unpacking bytes (length before)) before
       → Ok tt ≡ count_answer count count → Ok tt ≡ room_answer room (node_room * count) → Reached table count (lent_of work requirements facts)
   reached before table count work requirements facts b w q f u t c r =
@@ -88,31 +88,28 @@ module _ (a : Answers) (rule : Rule) (bytes : List ℕ) (room : ℕ) where
           ap (λ (k : ℕ). then (count_answer k k) (λ _. then (room_answer room (node_room * k)) (λ _. last))) (sym n)
           ∙ (λ i. then (sym c i) (λ _. then (sym r i) (λ _. last)))
 
-  module _ (table : List Cell) (count : ℕ) (lent : Lent) (at : Reached table count lent) where
-    -- the call refuses
-    pub call_refused : (e : Fault) → Err e ≡ counted (call_answer a rule table count lent) → unpacked_answer a rule bytes room ≡ Err e
-    call_refused e h = at.answer ∙ refused_back _ e h
+  -- the call grants: what it left in the table's front packs, and is the answer
+  pub record Granted (n : ℕ) (after : List Cell) : Type 0 where
+    pub answer : unpacked_answer a rule bytes room ≡ Ok (take n after)
+    pub packs : packing (take n after) room ≡ Ok (packed_plan (take n after))
 
-    -- the call grants: what it left in the table's front packs, and is the answer
-    pub record Granted (n : ℕ) (after : List Cell) : Type 0 where
-      pub whole : n ≡ length (take n after)
-      pub answer : unpacked_answer a rule bytes room ≡ Ok (take n after)
-      pub packs : packing (take n after) room ≡ Ok (packed_plan (take n after))
-
-    pub call_granted : (n : ℕ) (after : List Cell) → Ok n ≡ counted (call_answer a rule table count lent) → after ≡ laid blank (call_answer a rule table count lent) table → Granted n after
-    call_granted n after h w =
-        let grant = granted_back (call_answer a rule table count lent) n h in
-        let new = grant.0 in
-        let front : take n after ≡ new = ap (take n) (w ∙ ap (λ (x : Result (List Cell) Fault). laid blank x table) grant.1) ∙ take_at new (replicate (length table - length new) blank) n (sym grant.2) in
-        let answer : unpacked_answer a rule bytes room ≡ Ok new = at.answer ∙ grant.1 in
-        let left : cells_answer a rule at.cells room ≡ Ok new = sym (ap (λ (x : Result (List Cell) Fault). then x (λ cs. cells_answer a rule cs room)) at.held) ∙ answer in
-        let fit = unpacked_packs a rule bytes room at.cells new at.held left in
-        let few = fit.few in
-        let much = at.roomy in
-        let is = at.counts in
-        let packs : packing new room ≡ Ok (packed_plan new) = rw (le-ltb room (record_size * length new) (omega arith), fit.fit, fit.fields) in
-        record {
-          whole = grant.2 ∙ sym (ap length front);
-          answer = answer ∙ ap Ok (sym front);
-          packs = subst (λ (cs : List Cell). packing cs room ≡ Ok (packed_plan cs)) (sym front) packs;
-        }
+  pub granted : (before table : List Cell) (count work requirements facts n : ℕ) (after : List Cell) → 2 * (length bytes / record_size) ≤ length before → 2 * (length bytes / record_size) ≤ work
+      → length bytes / record_size ≤ requirements → length bytes / record_size ≤ facts → Ok count ≡ counted (unpacking bytes (length before)) → table ≡ laid blank (unpacking bytes (length before)) before
+      → Ok tt ≡ count_answer count count → Ok tt ≡ room_answer room (node_room * count) → Ok n ≡ counted (call_answer a rule table count (lent_of work requirements facts))
+      → after ≡ laid blank (call_answer a rule table count (lent_of work requirements facts)) table → Granted n after
+  granted before table count work requirements facts n after b w q f u t c r h l =
+      let at = reached before table count work requirements facts b w q f u t c r in
+      let grant = granted_back (call_answer a rule table count (lent_of work requirements facts)) n h in
+      let new = grant.0 in
+      let front : take n after ≡ new = ap (take n) (l ∙ ap (λ (x : Result (List Cell) Fault). laid blank x table) grant.1) ∙ take_at new (replicate (length table - length new) blank) n (sym grant.2) in
+      let answer : unpacked_answer a rule bytes room ≡ Ok new = at.answer ∙ grant.1 in
+      let left : cells_answer a rule at.cells room ≡ Ok new = sym (ap (λ (x : Result (List Cell) Fault). then x (λ cs. cells_answer a rule cs room)) at.held) ∙ answer in
+      let fit = unpacked_packs a rule bytes room at.cells new at.held left in
+      let few = fit.few in
+      let much = at.roomy in
+      let is = at.counts in
+      let packs : packing new room ≡ Ok (packed_plan new) = rw (le-ltb room (record_size * length new) (omega arith), fit.fit, fit.fields) in
+      record {
+        answer = answer ∙ ap Ok (sym front);
+        packs = subst (λ (cs : List Cell). packing cs room ≡ Ok (packed_plan cs)) (sym front) packs;
+      }

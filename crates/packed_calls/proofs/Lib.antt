@@ -1,4 +1,4 @@
 mod Writable
-mod Keeping
+pub mod Keeping
 mod Places
 pub mod Conversion

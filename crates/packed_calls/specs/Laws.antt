@@ -16,6 +16,12 @@ pub record HoldsPages (a : Answers) (before : List Cell) (bytes : List ℕ) : Ty
   pub held : unpacked bytes ≡ Ok after
   pub pages : PagesKept a before after
 
+-- two packed plans between which no page changes
+pub record PackedKept (a : Answers) (bytes new : List ℕ) : Type 0 where
+  pub before : List Cell
+  pub held : unpacked bytes ≡ Ok before
+  pub kept : HoldsPages a before new
+
 -- whatever plan the first bytes hold, the second hold one with the same pages
 abbrev pub BytesKept : Answers → List ℕ → List ℕ → Type 0
 BytesKept a bytes new = (cells : List Cell) → unpacked bytes ≡ Ok cells → HoldsPages a cells new
@@ -45,7 +51,7 @@ pub record PackedCalled (a : Answers) (most : ℕ) (rule : Rule) (bytes : List �
   pub answered : answer ≡ code_of (counted (packed_answer a most rule bytes room))
   -- every byte of the output
   pub written : out ≡ output a most rule bytes room
-  -- between the plan that came in and the plan that went out
-  pub pages : IfOk (counted (packed_answer a most rule bytes room)) (λ n. BytesKept a bytes (take (record_size * n) out))
+  -- granted, between the plan that came in and the plan that went out
+  pub pages : IfOk (counted (packed_answer a most rule bytes room)) (λ n. PackedKept a bytes (take (record_size * n) out))
   -- over any list of such calls
   pub runs : PackedRunsKeepPages a most

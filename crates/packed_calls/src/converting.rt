@@ -2,7 +2,7 @@
 ghost use Rattle.std.specs.Prelude.{◌≡◌, ◌*◌, ◌/◌, ◌≤◌, length};
 ghost use Rattle.plan.specs.Tables.{counted, laid};
 ghost use Rattle.records.specs.Record.{record_size};
-ghost use Rattle.packed_calls.specs.Converts.{size_answer, unpacked_answer, packed_answer, packed_up, output};
+ghost use Rattle.packed_calls.specs.Converts.{unpacked_answer, packed_answer, packed_up};
 ghost use Rattle.packed_calls.specs.Laws.{PackedCalled};
 
 use crate::codes::code;
@@ -15,47 +15,8 @@ use records::{RECORD, pack, unpack};
 /// How many bytes of output each node asks for: two records.
 const NODE_ROOM: usize = 2 * RECORD;
 
-fn check_size(bytes: usize, most: usize) -> Result<(), Fault>
-    requires { most ≤ 4096 }
-    ensures { result ≡ size_answer most bytes }
-{
-    if bytes > RECORD * most {
-        return Err(Fault {
-            refusal: Refusal::Count,
-            place: 0,
-        });
-    }
-    Ok(())
-}
-
-/// Calls a rule on a packed plan in lent memory that is large enough. Refused, the output stays as it was.
-fn convert_in<O: OperatorSet>(
-    rule: Rule,
-    set: &O,
-    plan: &[u8],
-    out: &mut [u8],
-    table: &mut [Cell],
-    work: &mut [Cell],
-    requirements: &mut [Pending],
-    facts: &mut [Fact],
-) -> Result<usize, Fault>
-    requires table { 2 * (length plan.now / record_size) ≤ length table.old }
-    requires work { 2 * (length plan.now / record_size) ≤ length work.old }
-    requires requirements { length plan.now / record_size ≤ length requirements.old }
-    requires facts { length plan.now / record_size ≤ length facts.old }
-    ensures answer { result ≡ counted (unpacked_answer (O.OperatorSet.answers set.now) rule plan.now (length out.old)) }
-    ensures bytes { out.new ≡ laid 0 (packed_up (unpacked_answer (O.OperatorSet.answers set.now) rule plan.now (length out.old))) out.old }
-{
-    let count = unpack(plan, table)?;
-    check_count(count, count)?;
-    check_room(out.len(), NODE_ROOM * count)?;
-    let granted = call(rule, set, table, count, work, requirements, facts)?;
-    pack(&table[0..granted], out)?;
-    Ok(granted)
-}
-
-/// The same in memory of its own, for so many nodes and twice as many cells.
-fn convert_with<O: OperatorSet, const NODES: usize, const CELLS: usize>(
+/// Calls a rule on a packed plan in memory for so many nodes and twice as many cells. Refused, the output stays as it was.
+fn convert_in<O: OperatorSet, const NODES: usize, const CELLS: usize>(
     rule: Rule,
     set: &O,
     plan: &[u8],
@@ -67,23 +28,28 @@ fn convert_with<O: OperatorSet, const NODES: usize, const CELLS: usize>(
     ensures answer { result ≡ counted (unpacked_answer (O.OperatorSet.answers set.now) rule plan.now (length out.old)) }
     ensures bytes { out.new ≡ laid 0 (packed_up (unpacked_answer (O.OperatorSet.answers set.now) rule plan.now (length out.old))) out.old }
 {
-    let mut table = [Cell::BLANK; CELLS];
+    let table: &mut [Cell] = &mut [Cell::BLANK; CELLS];
     let mut work = [Cell::BLANK; CELLS];
     let mut requirements = [Pending::BLANK; NODES];
     let mut facts = [Fact::BLANK; NODES];
-    convert_in(
+    let count = unpack(plan, table)?;
+    check_count(count, count)?;
+    check_room(out.len(), NODE_ROOM * count)?;
+    let granted = call(
         rule,
         set,
-        plan,
-        out,
-        &mut table,
+        table,
+        count,
         &mut work,
         &mut requirements,
         &mut facts,
-    )
+    )?;
+    pack(&table[..granted], out)?;
+    Ok(granted)
 }
 
-/// The same on plans of `MOST` nodes at most.
+/// The same on plans of `MOST` nodes at most. The constant decides where it can, so that calls that take no large plan have no memory
+/// for one on their stack.
 fn convert_some<O: OperatorSet, const MOST: usize>(
     rule: Rule,
     set: &O,
@@ -94,31 +60,21 @@ fn convert_some<O: OperatorSet, const MOST: usize>(
     ensures answer { result ≡ counted (packed_answer (O.OperatorSet.answers set.now) MOST rule plan.now (length out.old)) }
     ensures bytes { out.new ≡ laid 0 (packed_up (packed_answer (O.OperatorSet.answers set.now) MOST rule plan.now (length out.old))) out.old }
 {
-    check_size(plan.len(), MOST)?;
+    if plan.len() > RECORD * MOST {
+        return Err(Fault {
+            refusal: Refusal::Count,
+            place: 0,
+        });
+    }
     match plan.len() / RECORD {
-        0..=16 => convert_with::<O, 16, 32>(rule, set, plan, out),
-        17..=64 => convert_with::<O, 64, 128>(rule, set, plan, out),
-        65..=512 => convert_with::<O, 512, 1024>(rule, set, plan, out),
-        _ => convert_with::<O, 4096, 8192>(rule, set, plan, out),
+        0..=16 => convert_in::<O, 16, 32>(rule, set, plan, out),
+        17..=64 => convert_in::<O, 64, 128>(rule, set, plan, out),
+        nodes if MOST <= 512 || nodes <= 512 => convert_in::<O, 512, 1024>(rule, set, plan, out),
+        _ => convert_in::<O, 4096, 8192>(rule, set, plan, out),
     }
 }
 
-/// The same, with zeros behind the new plan or in the place of one.
-fn convert_zeroed<O: OperatorSet, const MOST: usize>(
-    rule: Rule,
-    set: &O,
-    plan: &[u8],
-    out: &mut [u8],
-) -> Result<usize, Fault>
-    requires { MOST ≤ 4096 }
-    ensures answer { result ≡ counted (packed_answer (O.OperatorSet.answers set.now) MOST rule plan.now (length out.old)) }
-    ensures bytes { out.new ≡ output (O.OperatorSet.answers set.now) MOST rule plan.now (length out.old) }
-{
-    out.fill(0);
-    convert_some::<O, MOST>(rule, set, plan, out)
-}
-
-/// The same, with one number as the answer, and the laws.
+/// The same, with zeros behind the new plan or in the place of one, and with one number as the answer.
 fn convert_most<O: OperatorSet, const MOST: usize>(
     rule: Rule,
     set: &O,
@@ -128,7 +84,8 @@ fn convert_most<O: OperatorSet, const MOST: usize>(
     requires { MOST ≤ 4096 }
     ensures { PackedCalled (O.OperatorSet.answers set.now) MOST rule plan.now (length out.old) out.new result }
 {
-    code(convert_zeroed::<O, MOST>(rule, set, plan, out))
+    out.fill(0);
+    code(convert_some::<O, MOST>(rule, set, plan, out))
 }
 
 /// Calls a rule on a packed plan of 512 nodes at most. Granted, the output is the packed new plan with zeros behind it, and the
@@ -142,7 +99,7 @@ pub fn convert<O: OperatorSet>(rule: Rule, set: &O, plan: &[u8], out: &mut [u8])
     convert_most::<O, 512>(rule, set, plan, out)
 }
 
-/// The same on plans of 4,096 nodes at most. It needs about a megabyte of stack for a large plan.
+/// The same on plans of 4,096 nodes at most. It needs about a megabyte of stack.
 pub fn convert_large<O: OperatorSet>(rule: Rule, set: &O, plan: &[u8], out: &mut [u8]) -> i32
     ensures { PackedCalled (O.OperatorSet.answers set.now) 4096 rule plan.now (length out.old) out.new result }
 {

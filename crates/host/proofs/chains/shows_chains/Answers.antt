@@ -1,4 +1,4 @@
-use Rattle.host.proofs.Converting.{chains_keep}
+use Rattle.host.proofs.Links.{chains_keep}
 use Rattle.host.proofs.chains.shows_chains.Goals as goal
 
 pub returns : goal.returns

@@ -3,13 +3,13 @@ ghost use Rattle.std.specs.Prelude.{◌≡◌, ◌*◌, length};
 ghost use Rattle.plan.specs.Numbers.{max_nodes};
 ghost use Rattle.plan.specs.Refusals.{then};
 ghost use Rattle.records.specs.Plans.{unpacking};
-ghost use Rattle.limits.specs.Calls.{lent_of};
+ghost use Rattle.limits.specs.Memory.{lent_by};
 ghost use Rattle.driver.specs.Reading.{rule_of};
 ghost use Rattle.driver.specs.Repeating.{repeated, repeated_on, repeated_count};
 
 use crate::reading::rule_of;
 use checks::Fact;
-use limits::{Pending, Rule, call};
+use limits::{Memory, Pending, Rule, call};
 use operators::CatalogueSet;
 use plan::{Cell, Fault, MAX_NODES, Refusal};
 use records::unpack;
@@ -21,17 +21,15 @@ fn repeat_call(
     saved: &[Cell],
     count: usize,
     table: &mut [Cell],
-    work: &mut [Cell],
-    requirements: &mut [Pending],
-    facts: &mut [Fact],
+    memory: &mut Memory<'_>,
 ) -> Result<usize, Fault>
     requires { length table.old ≡ length saved.now }
-    ensures { result ≡ repeated times rule saved.now count (lent_of (length work.old) (length requirements.old) (length facts.old)) }
+    ensures { result ≡ repeated times rule saved.now count (lent_by memory.old) }
 {
     let mut answer = Ok(count);
-    for turn in 0..times {
+    for _ in 0..times {
         table.copy_from_slice(saved);
-        answer = call(rule, &CatalogueSet, table, count, work, requirements, facts);
+        answer = call(rule, &CatalogueSet, table, count, memory);
     }
     answer
 }
@@ -47,20 +45,19 @@ fn repeat_on(times: usize, rule: Rule, plan: &[u8]) -> Result<usize, Fault>
     let mut facts = [Fact::BLANK; 4096];
     let count = unpack(plan, &mut saved)?;
     if count > MAX_NODES {
-        return Err(Fault {
-            refusal: Refusal::Count,
-            place: 0,
-        });
+        return Err(Refusal::Count.at(0));
     }
     repeat_call(
         times,
         rule,
-        &saved[0..2 * count],
+        &saved[..2 * count],
         count,
-        &mut table[0..2 * count],
-        &mut work[0..2 * count],
-        &mut requirements[0..count],
-        &mut facts[0..count],
+        &mut table[..2 * count],
+        &mut Memory {
+            work: &mut work[..2 * count],
+            requirements: &mut requirements[..count],
+            facts: &mut facts[..count],
+        },
     )
 }
 

@@ -7,7 +7,7 @@ ghost use Rattle.packed_calls.specs.Laws.{PackedCalled};
 
 use crate::codes::code;
 use checks::{Fact, check_count, check_room};
-use limits::{Pending, Rule, call};
+use limits::{Memory, Pending, Rule, call};
 use operators::OperatorSet;
 use plan::{Cell, Fault, Refusal};
 use records::{RECORD, pack, unpack};
@@ -29,21 +29,15 @@ fn convert_in<O: OperatorSet, const NODES: usize, const CELLS: usize>(
     ensures bytes { out.new ≡ laid 0 (packed_up (unpacked_answer (O.OperatorSet.answers set.now) rule plan.now (length out.old))) out.old }
 {
     let table: &mut [Cell] = &mut [Cell::BLANK; CELLS];
-    let mut work = [Cell::BLANK; CELLS];
-    let mut requirements = [Pending::BLANK; NODES];
-    let mut facts = [Fact::BLANK; NODES];
+    let mut memory = Memory {
+        work: &mut [Cell::BLANK; CELLS],
+        requirements: &mut [Pending::BLANK; NODES],
+        facts: &mut [Fact::BLANK; NODES],
+    };
     let count = unpack(plan, table)?;
     check_count(count, count)?;
     check_room(out.len(), NODE_ROOM * count)?;
-    let granted = call(
-        rule,
-        set,
-        table,
-        count,
-        &mut work,
-        &mut requirements,
-        &mut facts,
-    )?;
+    let granted = call(rule, set, table, count, &mut memory)?;
     pack(&table[..granted], out)?;
     Ok(granted)
 }
@@ -61,10 +55,7 @@ fn convert_some<O: OperatorSet, const MOST: usize>(
     ensures bytes { out.new ≡ laid 0 (packed_up (packed_answer (O.OperatorSet.answers set.now) MOST rule plan.now (length out.old))) out.old }
 {
     if plan.len() > RECORD * MOST {
-        return Err(Fault {
-            refusal: Refusal::Count,
-            place: 0,
-        });
+        return Err(Refusal::Count.at(0));
     }
     match plan.len() / RECORD {
         0..=16 => convert_in::<O, 16, 32>(rule, set, plan, out),

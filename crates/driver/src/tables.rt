@@ -8,6 +8,7 @@ use crate::row_types::{GroupRow, OperatorRow};
 use operators::{
     CardinalityEffect, KnownEmpty, LimitsPass, OperatorSet, PartitionCount, WindowExpr,
 };
+use plan::Kind;
 
 /// What is read past the end of the groups.
 const NO_GROUP: GroupRow = GroupRow {
@@ -38,10 +39,12 @@ impl OperatorSet for TableSet<'_> {
     ghost answers = { λ s. table_answers s.operators.now s.exprs.now s.width s.groups.now };
 
     fn fits(&self, kind: u8, _parameter: u32, children: u8) -> bool {
-        kind < 16
-            || self
+        match Kind::from(kind) {
+            Kind::Operator(kind) => self
                 .row(kind)
-                .is_some_and(|row| row.least <= children && children <= row.most)
+                .is_some_and(|row| (row.least..=row.most).contains(&children)),
+            _ => true,
+        }
     }
 
     fn limits_pass(&self, kind: u8, _parameter: u32) -> LimitsPass {

@@ -1,7 +1,7 @@
 -- The plan that calls are repeated on. Assumes nothing.
 use Rattle.std.proofs.Common.{◌≡◌, ℕ, ◌+◌, ◌-◌, ◌*◌, ◌≤◌, Bool, cond, List, ◌++◌, length, take, replicate, Ok, Result, sym, ap, ◌∙◌, arith, le-ltb}
 use Rattle.std.proofs.Math.Seq.{take-append-add}
-use Rattle.std.proofs.lemmas.List.{take-replicate, length-replicate}
+use Rattle.std.proofs.lemmas.List.{take-replicate}
 use Rattle.plan.specs.declared.cells.Cell.{Cell}
 use Rattle.plan.specs.declared.refusals.Fault.{Fault}
 use Rattle.plan.specs.declared.refusals.Refusal.TheVariants.{Count}
@@ -15,23 +15,18 @@ use Rattle.limits.specs.Calls.{lent_of}
 use Rattle.packed_calls.proofs.Conversion.{granted_back}
 use Rattle.driver.specs.Repeating.{repeated, table_of, repeated_on}
 
--- the front of blank memory is as long as asked
-pub length_front : {A : Type 0} (size : ℕ) (x : A) (n : ℕ) → n ≤ size → length (take n (replicate size x)) ≡ n
-length_front size x n h = ap length (take-replicate n size x h) ∙ length-replicate n x
-
 -- the front of a table that a plan was unpacked into: the plan, and as many blank cells
-pub repeated_plan : (times : ℕ) (rule : Rule) (bytes : List ℕ) (before saved : List Cell) (count work requirements facts : ℕ) → length before ≡ 2 * max_nodes → Ok count ≡ counted (unpacking bytes (length before))
-    → saved ≡ laid blank (unpacking bytes (length before)) before → count ≤ max_nodes → work ≡ 2 * count → requirements ≡ count → facts ≡ count
-    → repeated times rule (take (2 * count) saved) count (lent_of work requirements facts) ≡ then (unpacking bytes (2 * max_nodes)) (repeated_on times rule)
-repeated_plan times rule bytes before saved count work requirements facts long u s few w q f =
+pub repeated_plan : (times : ℕ) (rule : Rule) (bytes : List ℕ) (before saved : List Cell) (count : ℕ) → length before ≡ 2 * max_nodes → Ok count ≡ counted (unpacking bytes (length before))
+    → saved ≡ laid blank (unpacking bytes (length before)) before → count ≤ max_nodes → repeated times rule (take (2 * count) saved) count (lent_of (2 * count) count count) ≡ then (unpacking bytes (2 * max_nodes)) (repeated_on times rule)
+repeated_plan times rule bytes before saved count long u s few =
     let grant = granted_back (unpacking bytes (length before)) count u in
     let cells = grant.0 in
     let n : count ≡ length cells = grant.2 in
     let room = length before - length cells in
     let laid_out : saved ≡ cells ++ replicate room blank = s ∙ ap (λ (x : Result (List Cell) Fault). laid blank x before) grant.1 in
     let twice : 2 * count ≡ length cells + length cells = omega arith in
-    let whole : take (2 * count) saved ≡ table_of cells = ap (take (2 * count)) laid_out ∙ ap (λ (m : ℕ). take m (cells ++ replicate room blank)) twice ∙ take-append-add cells (replicate room blank) (length cells) ∙ ap (λ (t : List Cell). cells ++ t) (take-replicate (length cells) room blank (omega arith)) in
+    let whole : take (2 * count) saved ≡ table_of cells = (λ i. take (twice i) (laid_out i)) ∙ take-append-add cells (replicate room blank) (length cells) ∙ ap (λ (t : List Cell). cells ++ t) (take-replicate (length cells) room blank (omega arith)) in
     let there : unpacking bytes (2 * max_nodes) ≡ Ok cells = ap (unpacking bytes) (sym long) ∙ grant.1 in
-    (λ i. repeated times rule (whole i) (n i) (lent_of ((w ∙ ap (λ (m : ℕ). 2 * m) n) i) ((q ∙ n) i) ((f ∙ n) i)))
+    (λ i. repeated times rule (whole i) (n i) (lent_of (2 * n i) (n i) (n i)))
     ∙ sym (ap (λ (b : Bool). cond b (refused_at Count 0) (repeated times rule (table_of cells) (length cells) (lent_of (2 * length cells) (length cells) (length cells)))) (le-ltb max_nodes (length cells) (omega arith)))
     ∙ sym (ap (λ (x : Result (List Cell) Fault). then x (repeated_on times rule)) there)

@@ -1,8 +1,9 @@
 // Calls on cell tables, made over and over, so that one of them can be timed: from the difference of two numbers of calls.
-ghost use Rattle.std.specs.Prelude.{◌≡◌, ◌*◌, length};
+ghost use Rattle.std.specs.Prelude.{◌≡◌, ◌*◌, ◌≤◌, length, take};
 ghost use Rattle.plan.specs.Numbers.{max_nodes};
 ghost use Rattle.plan.specs.Refusals.{then};
 ghost use Rattle.records.specs.Plans.{unpacking};
+ghost use Rattle.limits.specs.Calls.{lent_of};
 ghost use Rattle.limits.specs.Memory.{lent_by};
 ghost use Rattle.driver.specs.Reading.{rule_of};
 ghost use Rattle.driver.specs.Repeating.{repeated, repeated_on, repeated_count};
@@ -34,19 +35,16 @@ fn repeat_call(
     answer
 }
 
-/// The same on a packed plan of at most 4,096 nodes, in tables and stacks of just the size that the call asks for.
-fn repeat_on(times: usize, rule: Rule, plan: &[u8]) -> Result<usize, Fault>
-    ensures { result ≡ then (unpacking plan.now (2 * max_nodes)) (repeated_on times rule) }
+/// The same on the front of saved cells, in tables and stacks of just the size that the call asks for.
+fn repeat_front(times: usize, rule: Rule, saved: &[Cell], count: usize) -> Result<usize, Fault>
+    requires few { count ≤ 4096 }
+    requires saved { 2 * count ≤ length saved.now }
+    ensures { result ≡ repeated times rule (take (2 * count) saved.now) count (lent_of (2 * count) count count) }
 {
-    let mut saved = [Cell::BLANK; 8192];
     let mut table = [Cell::BLANK; 8192];
     let mut work = [Cell::BLANK; 8192];
     let mut requirements = [Pending::BLANK; 4096];
     let mut facts = [Fact::BLANK; 4096];
-    let count = unpack(plan, &mut saved)?;
-    if count > MAX_NODES {
-        return Err(Refusal::Count.at(0));
-    }
     repeat_call(
         times,
         rule,
@@ -59,6 +57,18 @@ fn repeat_on(times: usize, rule: Rule, plan: &[u8]) -> Result<usize, Fault>
             facts: &mut facts[..count],
         },
     )
+}
+
+/// The same on a packed plan of at most 4,096 nodes.
+fn repeat_on(times: usize, rule: Rule, plan: &[u8]) -> Result<usize, Fault>
+    ensures { result ≡ then (unpacking plan.now (2 * max_nodes)) (repeated_on times rule) }
+{
+    let mut saved = [Cell::BLANK; 8192];
+    let count = unpack(plan, &mut saved)?;
+    if count > MAX_NODES {
+        return Err(Refusal::Count.at(0));
+    }
+    repeat_front(times, rule, &saved, count)
 }
 
 /// Makes the same call of a rule so many times under the catalogue's operators, and answers the node count that the last one left; 0

@@ -1,13 +1,11 @@
 -- What unpacking, the call and packing come to, one after another, in memory that is large enough. Assumes nothing.
-use Rattle.std.proofs.Common.{◌≡◌, ℕ, ◌+◌, ◌-◌, ◌*◌, ◌/◌, ◌≤◌, Bool, true, false, cond, ◌||◌, eqb, ltb, List, ◌++◌, length, take, replicate, Ok, Err, Result, sym, refl, ap, ◌∙◌, subst, arith, ltb-false, le-ltb}
+use Rattle.std.proofs.Common.{◌≡◌, ℕ, ◌+◌, ◌-◌, ◌*◌, ◌/◌, ◌≤◌, List, ◌++◌, length, take, replicate, Ok, Err, Result, sym, refl, ap, ◌∙◌, subst, arith, le-ltb}
 use Rattle.std.proofs.lemmas.List.{take_at, length-append, length-replicate}
 use Rattle.std.proofs.lemmas.Bool.Decides.{nat_tests}
 use Rattle.plan.specs.declared.cells.Cell.{Cell}
 use Rattle.plan.specs.declared.refusals.Fault.{Fault}
-use Rattle.plan.specs.declared.refusals.Refusal.TheVariants.{Count, Room}
 use Rattle.plan.specs.Cells.{blank}
-use Rattle.plan.specs.Numbers.{max_nodes}
-use Rattle.plan.specs.Refusals.{refused_at, then}
+use Rattle.plan.specs.Refusals.{then}
 use Rattle.plan.specs.Tables.{counted, laid}
 use Rattle.records.specs.Record.{record_size}
 use Rattle.records.specs.Plans.{packed_plan, packing, unpacking}
@@ -15,7 +13,7 @@ use Rattle.records.proofs.Rooms.{enough, read_cells}
 use Rattle.operators.specs.Answers.{Answers}
 use Rattle.checks.specs.Accepts.{count_answer, room_answer, plan_answer}
 use Rattle.limits.specs.declared.rules.Rule.{Rule}
-use Rattle.limits.specs.Calls.{Lent, lent_of, rule_answer, rooms_answer, call_answer}
+use Rattle.limits.specs.Calls.{lent_of, rule_answer, call_answer}
 use Rattle.packed_calls.specs.Converts.{unpacked, node_room, cells_answer, unpacked_answer}
 use Rattle.packed_calls.proofs.Keeping.{unpacked_packs}
 
@@ -38,6 +36,7 @@ count_wider small large count h is = grind (arith, nat_tests)
 module _ (a : Answers) (rule : Rule) (bytes : List ℕ) (room : ℕ) where
   -- the call grants: what it left in the table's front packs, and is the answer
   pub record Granted (n : ℕ) (after : List Cell) : Type 0 where
+    pub whole : n ≡ length (take n after)
     pub answer : unpacked_answer a rule bytes room ≡ Ok (take n after)
     pub packs : packing (take n after) room ≡ Ok (packed_plan (take n after))
 
@@ -76,6 +75,7 @@ module _ (a : Answers) (rule : Rule) (bytes : List ℕ) (room : ℕ) where
       let much = room_told room (node_room * count) r in
       let packs : packing new room ≡ Ok (packed_plan new) = rw (le-ltb room (record_size * length new) (omega arith), fit.fit, fit.fields) in
       record {
+        whole = grant.2 ∙ sym (ap length front_new);
         answer = ap (λ (x : Result (List Cell) Fault). then x (λ cs. cells_answer a rule cs room)) held ∙ left ∙ ap Ok (sym front_new);
         packs = subst (λ (cs : List Cell). packing cs room ≡ Ok (packed_plan cs)) (sym front_new) packs;
       }

@@ -38,8 +38,7 @@ fn convert_in<O: OperatorSet, const NODES: usize, const CELLS: usize>(
     check_count(count, count)?;
     check_room(out.len(), NODE_ROOM * count)?;
     let granted = call(rule, set, table, count, &mut memory)?;
-    pack(&table[..granted], out)?;
-    Ok(granted)
+    pack(&table[..granted], out).map(|_| granted)
 }
 
 /// The same on plans of `MOST` nodes at most. The constant decides where it can, so that calls that take no large plan have no memory

@@ -16,18 +16,20 @@ fn show_fault(rt: &HostRuntime, fault: Fault) -> io::Result<()> {
     println!(rt; "  {fault}: {}", fault.refusal)
 }
 
-/// A line of the tree, behind a front of two characters.
-pub fn show_cell(rt: &HostRuntime, front: &str, cell: &Cell, depth: usize) -> io::Result<()> {
-    let line = describe(rt.alloc(), cell)?;
-    println!(rt; "{front}{}{line}", "".width(depth.saturating_mul(2)))
-}
-
-/// A line for each cell, further in for each node that it stands below, with an arrow at the refused one.
-fn show_tree(rt: &HostRuntime, cells: &[Cell], refused: Option<usize>) -> io::Result<()> {
+/// A line for each cell, further in for each node that it stands below, with a mark in front of those that pass a test.
+pub fn show_tree<F: Fn(usize, &Cell) -> bool>(
+    rt: &HostRuntime,
+    cells: &[Cell],
+    mark: char,
+    is_marked: F,
+) -> io::Result<()>
+    requires { F.IsAlwaysCallable is_marked }
+{
     let levels = depths(rt.alloc(), cells)?;
     for (place, (cell, depth)) in cells.iter().zip(levels.iter()).enumerate() {
-        let front = if refused == Some(place) { "> " } else { "  " };
-        show_cell(rt, front, cell, *depth)?;
+        let line = describe(rt.alloc(), cell)?;
+        let front = if is_marked(place, cell) { mark } else { ' ' };
+        println!(rt; "{front} {}{line}", "".width(depth.saturating_mul(2)))?;
     }
     Ok(())
 }
@@ -41,12 +43,12 @@ fn check_cells(heap: Global, cells: &[Cell]) -> Result<Result<u64, Fault>, Alloc
 fn show_checked(rt: &HostRuntime, cells: &[Cell]) -> io::Result<bool> {
     match check_cells(rt.alloc(), cells)? {
         Ok(partitions) => {
-            show_tree(rt, cells, None)?;
+            show_tree(rt, cells, '>', |_, _| false)?;
             println!(rt; "  accepted, partitions: {partitions}")?;
             Ok(true)
         }
         Err(fault) => {
-            show_tree(rt, cells, Some(fault.place))?;
+            show_tree(rt, cells, '>', |place, _| place == fault.place)?;
             show_fault(rt, fault)?;
             Ok(false)
         }

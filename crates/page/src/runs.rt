@@ -1,12 +1,11 @@
 // The rules called on a plan, and what they change.
-use crate::answers::show_cell;
+use crate::answers::show_tree;
 use checks::Fact;
 use limits::{Memory, Pending, RuleCall, run};
 use operators::CatalogueSet;
 use plan::Cell;
 use std::alloc::{AllocError, Global};
 use std::io;
-use writing::depths;
 
 fn show_call(rt: &HostRuntime, call: &RuleCall) -> io::Result<()> {
     let rule = call.rule;
@@ -15,16 +14,6 @@ fn show_call(rt: &HostRuntime, call: &RuleCall) -> io::Result<()> {
         Some(Err(fault)) => println!(rt; "  {rule}: {fault}: {}", fault.refusal),
         None => println!(rt; "  {rule}: not called"),
     }
-}
-
-/// The tree, with a mark at each cell that the plan did not have before.
-fn show_changed(rt: &HostRuntime, before: &[Cell], after: &[Cell]) -> io::Result<()> {
-    let levels = depths(rt.alloc(), after)?;
-    for (cell, depth) in after.iter().zip(levels.iter()) {
-        let front = if before.contains(cell) { "  " } else { "* " };
-        show_cell(rt, front, cell, *depth)?;
-    }
-    Ok(())
 }
 
 /// A plan table with room for what the rules may add.
@@ -57,8 +46,7 @@ pub fn show_run(rt: &HostRuntime, cells: &[Cell], calls: &mut [RuleCall]) -> io:
     for call in calls.iter() {
         show_call(rt, call)?;
     }
-    match table.get(0..count) {
-        Some(after) => show_changed(rt, cells, after),
-        None => Ok(()),
-    }
+    let after = table.get(0..count).unwrap_or(&[]);
+    // The cells that the plan did not have before.
+    show_tree(rt, after, '*', |_, cell| !cells.contains(cell))
 }

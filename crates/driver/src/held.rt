@@ -6,7 +6,7 @@ use crate::row_types::{GroupRow, OperatorRow};
 use operators::WindowExpr;
 
 /// Operators as a table has them: a row for a kind, a window for each `width` expressions, a row for an aggregate's parameter.
-#[derive(Clone, Copy)]
+#[derive(Clone, Copy, PartialEq, Eq, Debug)]
 pub struct TableSet<'a> {
     pub operators: &'a [OperatorRow],
     pub exprs: &'a [WindowExpr],

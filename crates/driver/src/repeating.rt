@@ -28,7 +28,7 @@ fn repeat_call(
     ensures { result ≡ repeated times rule saved.now count (lent_by memory.old) }
 {
     let mut answer = Ok(count);
-    for turn in 0..times {
+    for _ in 0..times {
         table.copy_from_slice(saved);
         answer = call(rule, &CatalogueSet, table, count, memory);
     }

@@ -1,8 +1,8 @@
-// Rows as C hands them over: enums cross as numbers. docs/comparison.md has the numbers.
+// Rows as C hands them over: enums cross as numbers, which `reading` reads.
 
 /// What a table says of one kind, whatever its parameter.
 #[repr(C)]
-#[derive(Clone, Copy)]
+#[derive(Clone, Copy, PartialEq, Eq, Debug)]
 pub struct OperatorRow {
     pub kind: u8,
     /// The fewest children that fit.
@@ -24,7 +24,7 @@ pub struct OperatorRow {
 
 /// One expression of a window.
 #[repr(C)]
-#[derive(Clone, Copy)]
+#[derive(Clone, Copy, PartialEq, Eq, Debug)]
 pub struct ExprRow {
     pub effect: u8,
     pub effect_number: u64,
@@ -35,7 +35,7 @@ pub struct ExprRow {
 
 /// What a table says of the aggregates of one parameter.
 #[repr(C)]
-#[derive(Clone, Copy)]
+#[derive(Clone, Copy, PartialEq, Eq, Debug)]
 pub struct GroupRow {
     pub group: u32,
     /// Whether it is plain distinct.
@@ -44,7 +44,7 @@ pub struct GroupRow {
 
 /// A declaration of one kind.
 #[repr(C)]
-#[derive(Clone, Copy)]
+#[derive(Clone, Copy, PartialEq, Eq, Debug)]
 pub struct DeclarationRow {
     pub kind: u8,
     pub shape: u8,

@@ -38,6 +38,7 @@ fn read_rows<R: Copy, T: From<R> + Copy>(rows: &[R], read: &mut [T]) -> usize
     ensures rows { AllZip T.From.from_gives (take (length read.old) rows.now) (take result read.new) }
 {
     let count = read.len().min(rows.len());
+    // By place: of a zip with `read.iter_mut()` no fact ties the entries to the slice.
     for (place, row) in rows[..count].iter().enumerate() {
         read[place] = T::from(*row);
     }

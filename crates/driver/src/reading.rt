@@ -1,4 +1,5 @@
-// Numbers read as what they stand for. A number that stands for nothing is read as the last case.
+// Numbers read as what they stand for. A number that stands for nothing is read as the last case. Functions, since `From` for a number and
+// an enum of another crate is not this crate's to implement.
 ghost use Rattle.std.specs.Prelude.{◌≡◌};
 ghost use Rattle.driver.specs.Reading.{rule_of, effect_of, known_empty_of, limit_effect_of, units_of, bound_of, expr_of, shape_of, declaration_of};
 

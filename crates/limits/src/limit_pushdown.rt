@@ -22,7 +22,7 @@ use operators::{OperatorSet, passes_limits, takes_fetch, takes_mark};
 use plan::{Cell, Fault, Kind, Stack};
 use sinks::{GlobalRequirements, Visited};
 
-/// What stands in a cell's place, and what is pending below it.
+/// What stands in a cell's place, and what is pending below it. `Visited`, of which the definitions speak, always has a node.
 #[derive(Clone, Copy, PartialEq, Eq, Debug)]
 pub(super) struct Stepped {
     pub above: Option<Cell>,
@@ -30,7 +30,8 @@ pub(super) struct Stepped {
     pub next: GlobalRequirements,
 }
 
-/// An outer limit over an inner one is one limit: the sum of the skips, and what both fetches leave.
+/// An outer limit over an inner one is one limit: the sum of the skips, and what both fetches leave. Its four numbers and its pair are those
+/// of DataFusion's function of this name.
 fn combine_limit(
     skip: u64,
     fetch: Option<u64>,

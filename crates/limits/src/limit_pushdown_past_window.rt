@@ -149,6 +149,7 @@ fn walk_cells<O: OperatorSet>(set: &O, cells: &[Cell], work: &mut [Cell]) -> Res
             lookahead: 0,
         },
     };
+    // By place: of a zip with `work.iter_mut()` no fact ties the entries to the table.
     for (place, cell) in cells.iter().enumerate() {
         work[place] = walk.visit(set, cell, place)?;
     }

@@ -45,7 +45,7 @@ fn hinted<O: OperatorSet>(set: &O, handed: Option<Handed>, cell: &Cell) -> Cell
     }
 }
 
-/// An aggregate that took the hint hands it on with its own group.
+/// An aggregate that took the hint hands it on with its own group. Apart from `hinted`, as the two definitions are.
 fn hand_on<O: OperatorSet>(set: &O, handed: Option<Handed>, cell: &Cell) -> Option<Handed>
     ensures { result ≡ handed_on (O.OperatorSet.answers set.now) handed cell.now }
 {
@@ -76,6 +76,7 @@ pub(super) fn hint_cells<O: OperatorSet>(
     ensures few { IfOk result (λ n. n ≤ length cells.now) }
 {
     let mut handed: Option<Handed> = None;
+    // By place: of a zip with `work.iter_mut()` no fact ties the entries to the table.
     for (place, cell) in cells.iter().enumerate() {
         let sum = hint_sum(cell, place)?;
         work[place] = hinted(set, handed, cell);

@@ -6,6 +6,7 @@ use plan::Fault;
 use std::fmt;
 use std::str::FromStr;
 
+/// An enum and no trait: the list of a run holds rules, and C names them by numbers.
 #[derive(Clone, Copy, PartialEq, Eq, Debug)]
 pub enum Rule {
     /// Limits go down as far as they can.

@@ -27,6 +27,7 @@ impl Cursor<'_> {
     fn parameter(&mut self) -> Result<u32, Problem>
         ensures { parsed result self.new ≡ parameter_at self.old }
     {
+        // The cast fits, here and at a kind: `try_from` would add a branch that never runs.
         let number = self.number(u64::from(MAX_PARAMETER), Problem::ParameterTooLarge)?;
         Ok(number as u32)
     }

@@ -78,6 +78,7 @@ fn read_cells(heap: Global, cursor: &mut Cursor) -> Result<Vec<Cell>, Problem>
     ensures reads { IfOk result (λ v. StandsFor cursor.old v.items) }
 {
     let mut cells = Vec::new(heap);
+    // Places of nodes, since the cells stand in one table, in which a parent's count goes up.
     let mut parents = Vec::new(heap);
     cursor.skip_blanks();
     cells.push(cursor.node()?)?;

@@ -17,7 +17,7 @@ pub enum CardinalityEffect {
     GreaterEqual,
 }
 
-/// How many partitions an operator has.
+/// How many partitions an operator has. No `Option`, whose `None` would say less than `Sum`.
 #[derive(Clone, Copy, PartialEq, Eq, Debug)]
 pub enum PartitionCount {
     /// As many as its children together.

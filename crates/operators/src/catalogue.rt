@@ -14,6 +14,7 @@ use plan::Kind;
 pub struct CatalogueSet;
 
 impl CatalogueSet {
+    // Numbers, as a cell's kind is one. They are patterns: `Kind::Operator(CatalogueSet::SCAN)`.
     /// Reads a column file of as many partitions as its parameter says.
     pub const SCAN: u8 = 16;
 

@@ -71,6 +71,7 @@ fn check_declarations(list: &[Declaration]) -> Result<(), Fault>
     if list.len() > MAX_DECLARATIONS {
         return Err(Refusal::Declaration.at(MAX_DECLARATIONS));
     }
+    // By place, since each is looked up among those before it.
     for (place, d) in list.iter().enumerate() {
         if d.is_refused(&list[..place]) {
             return Err(Refusal::Declaration.at(place));

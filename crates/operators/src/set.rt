@@ -6,7 +6,7 @@ ghost use Rattle.operators.specs.Windows.{WindowSized};
 use super::{CardinalityEffect, KnownEmpty, LimitsPass, PartitionCount, WindowExpr};
 
 /// Speaks of the kinds from 16 on, of windows, aggregates and the parameters of the kinds below. Every question is answered, also
-/// of what does not fit, and asked again it is answered the same.
+/// of what does not fit, and asked again it is answered the same. A question by itself for each: their answers have types of their own.
 pub trait OperatorSet {
     ghost answers: { Self → Answers };
 

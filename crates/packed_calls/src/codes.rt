@@ -7,7 +7,7 @@ use plan::Fault;
 /// What a refusal's number counts, so that a place stands beside it.
 const PLACES: i32 = 8192;
 
-/// An answer as one number: the node count, or a refusal below 0.
+/// An answer as one number, which is what C gets: the node count, or a refusal below 0.
 pub(super) fn code(answer: Result<usize, Fault>) -> i32
     requires { HasCode answer }
     ensures { result ≡ code_of answer }

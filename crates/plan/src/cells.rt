@@ -22,7 +22,8 @@ pub const MAX_PARAMETER: u32 = 32_767;
 
 #[derive(Clone, Copy, PartialEq, Eq, Debug)]
 pub struct Cell {
-    /// Which operator it is: below 16 one that every plan knows (`Kind`), from 16 on one of the operator set's.
+    /// Which operator it is: below 16 one that every plan knows (`Kind`), from 16 on one of the operator set's. A number and no `Kind`, since
+    /// any may come in, and a `Kind` would want an invariant against `Operator(3)`.
     pub kind: u8,
     /// How many trees behind this cell are its children's.
     pub children: u8,

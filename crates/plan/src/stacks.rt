@@ -4,6 +4,8 @@ ghost use Rattle.std.specs.Prelude.{◌≡◌, ◌+◌, ◌-◌, ◌<◌, [], �
 ghost use Rattle.std.specs.Option.{option_to_list};
 ghost use Rattle.plan.specs.Stacks.{content, room, at_depth};
 
+/// Lent memory and a top, since a call has no heap. That the top is within is no invariant: its fields are public, so it would ask something of
+/// whoever makes a stack.
 #[derive(Drop)]
 pub struct Stack<'a, T: Copy> {
     pub items: &'a mut [T],

@@ -84,6 +84,7 @@ pub(crate) fn cell_of(bytes: &Record) -> Cell
     ensures { result ≡ cell_of (values_in bytes.now) }
 {
     let number = read_number(bytes);
+    // Casts, since each quotient fits: `try_from` would add a branch that never runs.
     let fetch = (number / FETCH % NUMBERS) as u64;
     let extra = (number % NUMBERS) as u64;
     let fetched = number / FETCH_BIT % 2 == 1;

@@ -45,6 +45,7 @@ fn write_plan(cells: &[Cell], out: &mut [u8])
     ensures bytes { out.new ≡ packed_plan cells.now ++ drop (record_size * length cells.now) out.old }
     ensures kinds { AllByRecursion (λ c. c.kind < 256) cells.now }
 {
+    // By place: of `chunks_exact_mut` no fact ties the chunks to the output.
     for (place, cell) in cells.iter().enumerate() {
         let at = RECORD * place;
         write_record(cell, &mut out[at..at + RECORD]);
@@ -75,6 +76,7 @@ fn read_plan(records: &[Record], table: &mut [Cell])
     requires { length records.now ≤ length table.old }
     ensures { table.new ≡ map cell_of (map values_in records.now) ++ drop (length records.now) table.old }
 {
+    // By place, for the same reason.
     for (place, record) in records.iter().enumerate() {
         table[place] = cell_of(record);
     }

@@ -21,7 +21,7 @@ pub struct TraverseState {
     pub lookahead: u64,
 }
 
-/// What the walk does at a node.
+/// What the walk does at a node. What the node becomes, what is pending behind it and which sum it forms are three definitions by these cases.
 #[derive(Clone, Copy, PartialEq, Eq, Debug)]
 pub enum Turn {
     /// Nothing changes.

@@ -18,7 +18,8 @@ fn follow(awaited: &mut Awaited, cell: &Cell) -> Result<(), AllocError>
     Ok(())
 }
 
-/// How deep each cell stands in its tree. Where the cells are more than one tree, each tree begins at depth 0.
+/// How deep each cell stands in its tree. Where the cells are more than one tree, each tree begins at depth 0. No iterator, since each step may
+/// run out of memory.
 pub fn depths(heap: Global, cells: &[Cell]) -> Result<Vec<usize>, AllocError>
     ensures value { IfOk result (λ v. v.items ≡ depths_from [] cells.now) }
     ensures len { IfOk result (λ v. vec_len v ≡ length cells.now) }

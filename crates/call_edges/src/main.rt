@@ -247,7 +247,8 @@ fn swelling(rt: &HostRuntime) -> io::Result<()> {
 
 /// The longest path that a plan may have.
 fn longest(rt: &HostRuntime) -> io::Result<()> {
-    let mut cells = Vec::from_slice(rt.alloc(), &[limit(2, 5)])?;
+    let mut cells = Vec::with_capacity(rt.alloc(), 4096)?;
+    cells.push(limit(2, 5))?;
     cells.resize(4095, Cell::new(Kind::Projection, 1, 0))?;
     cells.push(Cell::new(SCAN, 0, 1))?;
     try_each(

@@ -25,7 +25,8 @@ fn window(parameter: u32) -> Cell {
 
 /// So many projections over a placeholder row.
 fn path(heap: Global, projections: usize) -> Result<Vec<Cell>, AllocError> {
-    let mut cells = vec![in heap; Cell::new(Kind::Projection, 1, 0); projections]?;
+    let mut cells = Vec::with_capacity(heap, projections.saturating_add(1))?;
+    cells.resize(projections, Cell::new(Kind::Projection, 1, 0))?;
     cells.push(row())?;
     Ok(cells)
 }

@@ -1,5 +1,5 @@
 // What is left of a text, and the words at its beginning. A problem leaves the cursor at the character that it is about.
-ghost use Rattle.std.specs.Prelude.{◌≡◌, ◌≤◌, ◌↔◌, IsTrue, [], length, is_some, IfOk, if◌then◌else◌, slice_get};
+ghost use Rattle.std.specs.Prelude.{◌≡◌, ◌+◌, ◌-◌, ◌≤◌, ◌↔◌, IsTrue, [], length, is_some, IfOk, if◌then◌else◌, slice_get};
 ghost use Rattle.notation.specs.Cursors.{begins, past_blanks, digit_at, tail, parsed, number_parsed, due_at};
 
 use std::marker::Model;
@@ -26,11 +26,11 @@ impl<'a> Cursor<'a> {
         Cursor { rest: text }
     }
 
-    /// How many bytes are left.
-    pub(crate) fn len(&self) -> usize
-        ensures { result ≡ length self.now }
+    /// The place in the text that it reads, counted from 1.
+    pub(crate) fn column(&self, text: &str) -> usize
+        ensures { result ≡ length text.now - length self.now + 1 }
     {
-        self.rest.len()
+        text.len().saturating_sub(self.rest.len()) + 1
     }
 
     pub(crate) fn is_empty(&self) -> bool

@@ -98,6 +98,6 @@ pub fn read_plan(heap: Global, text: &str) -> Result<Vec<Cell>, Slip>
 {
     let mut cursor = Cursor::new(text.as_bytes());
     let read = read_cells(heap, &mut cursor);
-    let column = text.len().saturating_sub(cursor.len()) + 1;
+    let column = cursor.column(text);
     read.map_err(|problem| Slip { problem, column })
 }

@@ -1,3 +1,3 @@
 mod Declarable
-mod Lists
+pub mod Lists
 mod Showing

@@ -53,8 +53,13 @@ pub fn is_passed_over(line: &str) -> bool {
     line.trim().is_empty() || line.starts_with('#')
 }
 
-/// The calls of the rules that these words name, or the first word that names none.
+/// The calls of the rules that these words name, or the first word that names none: it is looked for before there is a list, so that it
+/// is told whatever memory there is.
 fn read_calls(heap: Global, words: &str) -> Result<Vec<RuleCall>, Trouble<'_>> {
+    let is_stray = |word: &&str| word.parse::<Rule>().is_err();
+    if let Some(word) = words.split_whitespace().find(is_stray) {
+        return Err(Trouble::Stray(word));
+    }
     let mut calls = Vec::new(heap);
     for word in words.split_whitespace() {
         let Ok(rule) = word.parse::<Rule>() else {

@@ -9,4 +9,4 @@ mod stacks;
 pub use cells::{Cell, MAX_CHILDREN, MAX_NODES, MAX_NUMBER, MAX_PARAMETER, MAX_PARTITIONS};
 pub use kinds::Kind;
 pub use refusals::{Fault, Refusal};
-pub use stacks::Stack;
+pub use stacks::{Stack, wipe};

@@ -1,6 +1,6 @@
 // A stack in lent memory, for any entry. It grows from the end of the slice to its front, so that what it holds, top first, is
 // what stands in the slice from its top on. Nothing is asked of a caller: a full stack refuses an entry, an empty one has none.
-ghost use Rattle.std.specs.Prelude.{◌≡◌, ◌+◌, ◌-◌, ◌<◌, [], ◌∷◌, ◌++◌, length, is_ok, Ok, Err, if◌then◌else◌, nat_lt};
+ghost use Rattle.std.specs.Prelude.{◌≡◌, ◌+◌, ◌-◌, ◌<◌, [], ◌∷◌, ◌++◌, length, replicate, is_ok, Ok, Err, if◌then◌else◌, nat_lt};
 ghost use Rattle.std.specs.Option.{option_to_list};
 ghost use Rattle.plan.specs.Stacks.{content, room, at_depth};
 
@@ -85,5 +85,15 @@ impl<'a, T: Copy> Stack<'a, T> {
         ensures { result ≡ at_depth (content self.now) depth }
     {
         self.items.get(self.top..)?.get(depth).copied()
+    }
+}
+
+/// Makes every entry of lent memory blank. Of the library's `fill` the same is known where the entries' `Clone` says that it copies; `Copy`
+/// alone does not say so.
+pub fn wipe<T: Copy>(items: &mut [T], blank: T)
+    ensures { items.new ≡ replicate (length items.old) blank }
+{
+    for item in items.iter_mut() {
+        *item = blank;
     }
 }

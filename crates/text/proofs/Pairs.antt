@@ -17,3 +17,7 @@ hex_back (b ∷ bs) read i h =
     let low = digit_back (b % 16) (omega arith) in
     let whole : 16 * (b / 16) + b % 16 ≡ b = omega arith in
     rw (high, low, whole) (hex_back bs (read ++ (b ∷ [])) (i + 1 + 1) h.1 ∙ ap Ok (append_assoc read (b ∷ []) bs))
+
+-- a pair of digits that is written, and then what is left
+pub two_more : (o rest : List ℕ) (a b : ℕ) → ((o ++ (a ∷ [])) ++ (b ∷ [])) ++ rest ≡ o ++ (a ∷ b ∷ rest)
+two_more o rest a b = simp append_assoc

@@ -1,6 +1,6 @@
 // Bytes as pairs of hexadecimal digits.
 ghost use Rattle.std.specs.Prelude.{◌≡◌, ◌<◌, ◌⊎◌, [], IfSome, IfOk, None as Nothing, Ok as Good, Err as Bad, string_bytes, MatchResult};
-ghost use Rattle.text.specs.Hex.{digit_of, hex_text, hex_read, is_blank};
+ghost use Rattle.text.specs.Hex.{digit_of, digit_text, hex_text, hex_read, is_blank};
 
 use crate::problems::{Problem, Slip};
 use std::alloc::{AllocError, Global};
@@ -12,6 +12,15 @@ fn digit_value(byte: u8) -> Option<u8>
 {
     let value = char::from(byte).to_digit(16)?;
     u8::try_from(value).ok()
+}
+
+// The digit of a value below 16. By itself, since `{:02x}` of each byte takes four times as long.
+fn digit_char(value: u8) -> char
+    requires { value < 16 }
+    ensures value { result ≡ digit_text value }
+    ensures ascii { result < 128 }
+{
+    char::from_digit(u32::from(value), 16).unwrap_or('0')
 }
 
 /// A space or a tab.
@@ -54,7 +63,8 @@ pub fn write_hex(heap: Global, bytes: &[u8]) -> Result<String, AllocError>
 {
     let mut out = String::new(heap);
     for byte in bytes {
-        write!(out, "{byte:02x}")?;
+        out.push(digit_char(*byte / 16))?;
+        out.push(digit_char(*byte % 16))?;
     }
     Ok(out)
 }

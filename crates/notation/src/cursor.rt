@@ -28,9 +28,10 @@ impl<'a> Cursor<'a> {
 
     /// The place in the text that it reads, counted from 1.
     pub(crate) fn column(&self, text: &str) -> usize
+        requires { length self.now ≤ length text.now }
         ensures { result ≡ length text.now - length self.now + 1 }
     {
-        text.len().saturating_sub(self.rest.len()) + 1
+        text.len() - self.rest.len() + 1
     }
 
     pub(crate) fn is_empty(&self) -> bool
@@ -50,6 +51,7 @@ impl<'a> Cursor<'a> {
     pub(crate) fn take(&mut self, byte: u8) -> bool
         ensures value { result ≡ begins byte self.old }
         ensures left { self.new ≡ (if result then tail self.old else self.old) }
+        ensures onward { length self.new ≤ length self.old }
     {
         match self.rest {
             [next, rest @ ..] if *next == byte => {
@@ -62,7 +64,8 @@ impl<'a> Cursor<'a> {
 
     /// Steps over a byte that is due.
     pub(crate) fn expect(&mut self, byte: u8, problem: Problem) -> Result<(), Problem>
-        ensures { parsed result self.new ≡ due_at byte problem self.old }
+        ensures value { parsed result self.new ≡ due_at byte problem self.old }
+        ensures onward { length self.new ≤ length self.old }
     {
         if self.take(byte) {
             Ok(())
@@ -73,7 +76,8 @@ impl<'a> Cursor<'a> {
 
     /// Steps over blanks.
     pub(crate) fn skip_blanks(&mut self)
-        ensures { self.new ≡ past_blanks self.old }
+        ensures value { self.new ≡ past_blanks self.old }
+        ensures onward { length self.new ≤ length self.old }
     {
         while let [byte, rest @ ..] = self.rest
             && is_blank(*byte)
@@ -85,6 +89,7 @@ impl<'a> Cursor<'a> {
     // Steps over a digit, and gives its value.
     fn digit(&mut self) -> Option<u8>
         ensures value { result ≡ digit_at self.old }
+        ensures onward { length self.new ≤ length self.old }
         ensures left { self.new ≡ (if is_some result then tail self.old else self.old) }
     {
         match self.rest {
@@ -100,6 +105,7 @@ impl<'a> Cursor<'a> {
     pub(crate) fn number(&mut self, most: u64, problem: Problem) -> Result<u64, Problem>
         ensures most { IfOk result (λ n. n ≤ most) }
         ensures value { parsed result self.new ≡ number_parsed most problem self.old }
+        ensures onward { length self.new ≤ length self.old }
     {
         let start = self.rest;
         let mut value = u64::from(self.digit().ok_or(Problem::ExpectedNumber)?);

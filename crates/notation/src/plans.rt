@@ -31,7 +31,8 @@ fn count_child(cells: &mut Vec<Cell>, parent: usize) -> Result<(), Problem>
 
 // Behind a complete tree: closes parentheses, and gives the parent of the next tree; none at the end of the plan.
 fn close(cursor: &mut Cursor, parents: &mut Vec<usize>) -> Result<Option<usize>, Problem>
-    ensures { IfOk result (λ parent. close_at (reverse parents.old.items) cursor.old ≡ Ok ((parent, reverse parents.new.items), cursor.new)) }
+    ensures value { IfOk result (λ parent. close_at (reverse parents.old.items) cursor.old ≡ Ok ((parent, reverse parents.new.items), cursor.new)) }
+    ensures onward { length cursor.new ≤ length cursor.old }
 {
     while let Some(parent) = parents.last() {
         if cursor.take(b',') {
@@ -60,7 +61,8 @@ fn next_parent(
     parents: &mut Vec<usize>,
     last: usize,
 ) -> Result<Option<usize>, Problem>
-    ensures { IfOk result (λ parent. next_at (reverse parents.old.items) last (past_blanks cursor.old) ≡ Ok ((parent, reverse parents.new.items), cursor.new)) }
+    ensures value { IfOk result (λ parent. next_at (reverse parents.old.items) last (past_blanks cursor.old) ≡ Ok ((parent, reverse parents.new.items), cursor.new)) }
+    ensures onward { length cursor.new ≤ length cursor.old }
 {
     cursor.skip_blanks();
     if cursor.take(b'(') {
@@ -76,6 +78,7 @@ fn next_parent(
 fn read_cells(heap: Global, cursor: &mut Cursor) -> Result<Vec<Cell>, Problem>
     ensures made { IfOk result (λ v. ReadPlan (length cursor.old) v.items) }
     ensures reads { IfOk result (λ v. StandsFor cursor.old v.items) }
+    ensures onward { length cursor.new ≤ length cursor.old }
 {
     let mut cells = Vec::new(heap);
     // Places of nodes, since the cells stand in one table, in which a parent's count goes up.

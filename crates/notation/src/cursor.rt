@@ -89,8 +89,8 @@ impl<'a> Cursor<'a> {
     // Steps over a digit, and gives its value.
     fn digit(&mut self) -> Option<u8>
         ensures value { result ≡ digit_at self.old }
-        ensures onward { length self.new ≤ length self.old }
         ensures left { self.new ≡ (if is_some result then tail self.old else self.old) }
+        ensures onward { length self.new ≤ length self.old }
     {
         match self.rest {
             [byte @ b'0'..=b'9', rest @ ..] => {

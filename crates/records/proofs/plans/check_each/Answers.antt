@@ -1,4 +1,4 @@
-use Rattle.std.proofs.Common.{sym, ◌∙◌, arith}
+use Rattle.std.proofs.Common.{sym, ◌∙◌}
 use Rattle.records.proofs.Passes.{pass_more, pass_stop}
 use Rattle.records.proofs.plans.check_each.Goals as goal
 
@@ -7,7 +7,7 @@ returns-then-not-passes g c = λ test h.
     let fails = sym (h _ _ c.passes.ensures) ∙ c.if-not-passes.true in
     let stop = pass_stop c.args.refusal test c.args.items.now c.loop-place.place _ c.loop-place-test.true c.index-items-place.is fails in
     let before = c.loop-place.invariant test h in
-    grind arith
+    cc
 
 pub loop-place-preserved : goal.loop-place-preserved
 loop-place-preserved g c = λ test h.
